@@ -2,8 +2,7 @@
 use Rattle.std.proofs.Common.{◌≡◌, ◌&&◌, List, [], ◌∷◌, refl}
 use Rattle.std.specs.Option.{option_or}
 use Rattle.sp_spec.specs.Formula.{Written, Formula}
-use Rattle.sp_read_parts.specs.Reading.{Joint, conjoint, disjoint, join}
-use Rattle.sp_read_parts.specs.Formulas.{chain}
+use Rattle.sp_read_parts.specs.Formulas.{Joint, conjoint, disjoint, join, chain}
 use Rattle.sp_law_guard.specs.CheckedForm.{marks_fit}
 use Rattle.sp_guard.specs.Unguarded.{QuantifierAbove, nothing_above, unguarded}
 

@@ -5,7 +5,7 @@ ghost use Rattle.sp_spec.specs.Guarded.{Guarded, holds};
 ghost use Rattle.sp_spec_text.specs.Shapes.{quantified};
 ghost use Rattle.sp_spec_text.specs.Formulas.{quantified_some};
 ghost use Rattle.sp_spec.specs.Formula as formulas;
-ghost use Rattle.sp_read_parts.specs.Reading.{conjoint, disjoint};
+ghost use Rattle.sp_read_parts.specs.Formulas.{conjoint, disjoint};
 ghost use Rattle.sp_read_parts.specs.Views as view;
 ghost use Rattle.sp_read_parts.specs.Formulas as written;
 ghost use Rattle.sp_formula.specs.FormulaView.{atom_of, formula_of};

@@ -7,7 +7,7 @@ ghost use Rattle.sp_spec_text.specs.Shapes.{quantified};
 ghost use Rattle.sp_spec_text.specs.Formulas.{quantified_some};
 ghost use Rattle.sp_read_parts.specs.Views as view;
 ghost use Rattle.sp_spec.specs.Formula as formulas;
-ghost use Rattle.sp_read_parts.specs.Reading.{Joint};
+ghost use Rattle.sp_read_parts.specs.Formulas.{Joint};
 ghost use Rattle.sp_read_parts.specs.Formulas as written;
 ghost use Rattle.sp_formula.specs.FormulaView.{formula_of};
 ghost use Rattle.sp_law_guard.specs.GuardedForm as forms;

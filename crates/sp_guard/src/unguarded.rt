@@ -4,7 +4,7 @@ ghost use Rattle.std.specs.Prelude.{◌≡◌, ◌≤◌, ◌<◌, ◌+◌, ◌^
 ghost use Rattle.std.specs.Option.{option_or};
 ghost use Rattle.sp_read_parts.specs.Views as view;
 ghost use Rattle.sp_spec.specs.Formula as formulas;
-ghost use Rattle.sp_read_parts.specs.Reading.{Joint};
+ghost use Rattle.sp_read_parts.specs.Formulas.{Joint};
 ghost use Rattle.sp_read_parts.specs.Formulas as written;
 ghost use Rattle.sp_formula.specs.FormulaView.{atom_of, binder_of, formula_of};
 ghost use Rattle.sp_law_guard.specs.GuardedForm as form;

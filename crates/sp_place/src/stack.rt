@@ -18,7 +18,7 @@ use sp_await::moves::{Expansion, Move, single};
 use sp_await_formula::{next_in_formula, next_in_term};
 use sp_await_theory::{next_in_item, next_in_list, next_in_proof, next_in_words};
 use sp_lex::Lexeme;
-use sp_read_parts::quoted::{is_quote, plain};
+use sp_read_formula::quoted::{is_quote, plain};
 use std::alloc::{AllocError, Global};
 
 /// What the token does to a part that is one token.

@@ -2,10 +2,7 @@
 use Rattle.std.proofs.Common.{◌≡◌, ◌<◌, ◌+◌, ℕ, List, [], ◌∷◌, ◌++◌, length, map, remove, slice_index_or, take, arith, get_or, refl, sym, ap, ap₂, ◌∙◌}
 use Rattle.std.proofs.lemmas.List.{map-append, take_more}
 use Rattle.sp_spec.specs.Formula.{Formula}
-use Rattle.sp_read_parts.specs.Reading.{Joint, join}
-use Rattle.sp_read_parts.specs.Formulas.{chain, linked, formula}
-use Rattle.sp_read_parts.specs.declared.formulas.Joint as code
-use Rattle.sp_read_parts.specs.declared.formulas.Joint.TheVariants as j
+use Rattle.sp_read_parts.specs.Formulas.{Joint, join, chain, linked, formula}
 use Rattle.sp_read_parts.specs.declared.written.ReadFormula.{ReadFormula}
 
 chain_more : (o : Joint) (f g : Formula) (gs : List Formula) → chain o f (gs ++ g ∷ []) ≡ join o (chain o f gs) g
@@ -30,11 +27,6 @@ chain_taken o f fs k x below is =
 pub first_taken : (fs : List ReadFormula) (x : ReadFormula) → 0 < length fs → x ≡ slice_index_or fs 0 x → map formula fs ≡ formula x ∷ map formula (remove fs 0)
 first_taken [] x below is = absurd (omega arith)
 first_taken (f ∷ fs) x below is = let e : x ≡ f = is in rw e refl
-
--- how far a chain stands above negations
-abbrev pub depth : code.Joint → ℕ
-depth j.And = 3
-depth j.Or = 5
 
 -- what is made of a chain part by part
 module _ {A : Type 0} (o : Joint) (seen : Formula → A) (op : A → A → A) (joins : (f g : Formula) → seen (join o f g) ≡ op (seen f) (seen g)) where

@@ -6,13 +6,5 @@ pub mod Sequence
 pub mod Until
 pub mod Annotated
 pub mod Spelled
-pub mod Atomic
-pub mod OneFormula
 pub mod Shown
 pub mod Chains
-pub mod Stuck
-pub mod Faithful
-pub mod Apart
-pub mod Taken
-pub mod LetBindings
-pub mod Plain

@@ -6,9 +6,8 @@ use Rattle.sp_spec_text.specs.Shapes.{quantified}
 use Rattle.sp_spec_text.specs.Formulas.{quantified_some, equivalent}
 use Rattle.sp_term.specs.declared.term.Term.{Term}
 use Rattle.sp_fact.specs.declared.fact.Action.{Action}
-use Rattle.sp_read_parts.specs.Reading.{conjoint, disjoint}
+use Rattle.sp_read_parts.specs.Formulas.{conjoint, disjoint, chain, formula_step, formula}
 use Rattle.sp_read_parts.specs.Views.{variable, term, action_of}
-use Rattle.sp_read_parts.specs.Formulas.{chain, formula_step, formula}
 use Rattle.sp_read_parts.specs.declared.written.WrittenVariable.{WrittenVariable}
 use Rattle.sp_read_parts.specs.declared.written.ReadFormula.{ReadFormula}
 use Rattle.sp_read_parts.specs.declared.written.ReadFormula.TheVariants as v

@@ -1,18 +1,22 @@
 -- What a formula in memory stands for.
-use Rattle.std.specs.Prelude.{ℕ, ◌<◌, ◌≤◌, List, [], ◌∷◌, length, map, Option, MatchOption, IfSome}
+use Rattle.std.specs.Prelude.{List, [], ◌∷◌, map}
 use Rattle.std.specs.Global.{Box}
 use Rattle.sp_spec.specs.Formula as f
-use Rattle.sp_spec.specs.Formula.{Formula}
+use Rattle.sp_spec.specs.Formula.{Formula, both, either}
 use Rattle.sp_spec_text.specs.Shapes.{quantified}
 use Rattle.sp_spec_text.specs.Formulas.{quantified_some, equivalent}
-use Rattle.sp_lex.specs.declared.token.Token as lexer
-use Rattle.sp_spec_text.specs.Lists.{NoReading}
-use Rattle.sp_read_parts.specs.Reading.{Joint, conjoint, disjoint, join, Part, Reads}
-use Rattle.sp_read_parts.specs.Views.{seen_from, variable, term, action_of}
-use Rattle.sp_read_parts.specs.declared.formulas.Joint as code
-use Rattle.sp_read_parts.specs.declared.formulas.Joint.TheVariants as j
+use Rattle.sp_read_parts.specs.Views.{variable, term, action_of}
 use Rattle.sp_read_parts.specs.declared.written.ReadFormula.{ReadFormula, fold-ReadFormula}
 use Rattle.sp_read_parts.specs.declared.written.ReadFormula.TheOpen.{ReadFormula-F}
+
+-- the signs that group to the left
+pub data Joint : Type 0 where
+  conjoint : Joint
+  disjoint : Joint
+
+abbrev pub join : Joint → Formula → Formula → Formula
+join conjoint f g = both f g
+join disjoint f g = either f g
 
 -- a formula and those behind it, grouped to the left
 abbrev pub chain : Joint → Formula → List Formula → Formula
@@ -23,10 +27,6 @@ chain o f (g ∷ gs) = chain o (join o f g) gs
 abbrev pub linked : Joint → List Formula → Formula
 linked o [] = f.truth
 linked o (f ∷ fs) = chain o f fs
-
-abbrev pub joint : code.Joint → Joint
-joint j.And = conjoint
-joint j.Or = disjoint
 
 -- one level, with each formula inside already seen
 abbrev pub formula_step : ReadFormula-F Formula → Formula
@@ -45,11 +45,3 @@ formula_step (ReadFormula-F.ForSome vs a) = quantified_some (map variable vs.ite
 
 abbrev pub formula : ReadFormula → Formula
 formula = fold-ReadFormula Formula formula_step
-
--- what a reader of this part gives: a formula that stands at this place, and the place behind it; or nothing, where no such part stands
-abbrev pub IsRead : Part → ℕ → List lexer.Token → ℕ → Option (Box ReadFormula × ℕ) → Type 0
-IsRead part n tokens at result = MatchOption result (NoReading (Reads part n) (seen_from tokens at)) (λ x. Reads part n (seen_from tokens at) (formula x.0.value) (seen_from tokens x.1))
-
--- the place behind a part is behind its beginning, and among the tokens
-abbrev pub IsFurther : List lexer.Token → ℕ → Option (Box ReadFormula × ℕ) → Type 0
-IsFurther tokens at result = IfSome result (λ x. (at < x.1) × (x.1 ≤ length tokens))

@@ -19,13 +19,13 @@ use Rattle.sp_spec_text.specs.Theories as g
 use Rattle.sp_spec_text.specs.Theories.{SpellsBuiltin, SpellsFunction, SpellsEquation, SpellsRuleHead, SpellsRule, SpellsRestriction, SpellsLemma, SpellsWords, SpellsDeclaration}
 use Rattle.sp_spec_text.proofs.Words.{end_reserved, restriction_words}
 use Rattle.sp_read_parts.specs.Parts.{IsTerm}
-use Rattle.sp_read_parts.specs.Reading.{first, second}
+use Rattle.sp_read_formula.specs.Reading.{first, second}
 use Rattle.sp_read_parts.proofs.One.{One, terms, term_one}
-use Rattle.sp_read_parts.proofs.Apart.{EndsTerm, sign_ends, word_ends}
-use Rattle.sp_read_parts.proofs.Atomic.{or_else_one, or_else_none}
+use Rattle.sp_read_formula.proofs.Apart.{EndsTerm, sign_ends, word_ends}
+use Rattle.sp_read_formula.proofs.Atomic.{or_else_one, or_else_none}
 use Rattle.sp_read_parts.proofs.Sequence.{Fixed, fixed_none, fixed_one, Then, no_first, no_second, Becomes, no_whole}
 use Rattle.sp_read_parts.proofs.Spelled.{term_spelled}
-use Rattle.sp_read_parts.proofs.Taken.{term_taken}
+use Rattle.sp_read_formula.proofs.Taken.{term_taken}
 use Rattle.sp_read_theory.specs.Made.{Made, made_of}
 use Rattle.sp_read_theory.specs.Rules.{IsRule}
 use Rattle.sp_read_theory.specs.Items.{IsBuiltin, IsFunction, IsEquation, equation, AreAll, Headed, NotHeaded, Under, under_colon, IsBlock, text_block, IsListing, IsStatement, IsDeclaration}

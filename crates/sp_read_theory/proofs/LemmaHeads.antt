@@ -8,9 +8,9 @@ use Rattle.sp_spec_text.specs.Written.{Attribute}
 use Rattle.sp_spec_text.specs.Theories as g
 use Rattle.sp_spec_text.specs.Theories.{SpellsLemmaAttribute, SpellsLemmaAttributes}
 use Rattle.sp_read_parts.specs.Parts.{IsNameFirst, name}
-use Rattle.sp_read_parts.specs.Reading.{first, second}
+use Rattle.sp_read_formula.specs.Reading.{first, second}
 use Rattle.sp_read_parts.proofs.One.{One, parts_one}
-use Rattle.sp_read_parts.proofs.Atomic.{or_else_one, or_else_none}
+use Rattle.sp_read_formula.proofs.Atomic.{or_else_one, or_else_none}
 use Rattle.sp_read_parts.proofs.Sequence.{Fixed, fixed_none, fixed_one, Then, no_first, no_second, Becomes, no_whole}
 use Rattle.sp_read_parts.proofs.Spelled.{parts_spelled}
 use Rattle.sp_read_theory.specs.Made.{Made, made_of}

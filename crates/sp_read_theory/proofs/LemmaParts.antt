@@ -8,7 +8,7 @@ use Rattle.sp_spec.specs.Theory.{TraceKind, all_traces, exists_trace, Restrictio
 use Rattle.sp_spec_text.specs.Lists.{IsNotFirst, NoReading}
 use Rattle.sp_read_parts.proofs.One.{One}
 use Rattle.sp_read_parts.proofs.Sequence.{Then, no_first, no_second, Becomes, no_whole}
-use Rattle.sp_read_parts.proofs.Plain.{quoted_one}
+use Rattle.sp_read_formula.proofs.Plain.{quoted_one}
 use Rattle.sp_spec_text.specs.Written.{WrittenProof, Attribute, lemma_item}
 use Rattle.sp_spec_text.specs.Spans.{Span}
 use Rattle.sp_spec_text.specs.Proofs.{SpellsProof}

@@ -6,9 +6,9 @@ use Rattle.sp_spec_text.specs.Bindings.{Binding}
 use Rattle.sp_spec_text.specs.Lists.{IsNotFirst, NoReading}
 use Rattle.sp_spec_text.specs.Written.{rule_item}
 use Rattle.sp_read_parts.specs.Parts.{IsNameFirst, name}
-use Rattle.sp_read_parts.specs.Reading.{first, second}
+use Rattle.sp_read_formula.specs.Reading.{first, second}
 use Rattle.sp_read_parts.proofs.One.{One}
-use Rattle.sp_read_parts.proofs.Atomic.{or_else_none}
+use Rattle.sp_read_formula.proofs.Atomic.{or_else_none}
 use Rattle.sp_read_theory.specs.Made.{Made, made_of}
 use Rattle.sp_read_theory.specs.Rules.{IsRule}
 use Rattle.sp_read_theory.specs.Items.{Headed, NotHeaded, Under, under_colon, IsBlock, text_block, IsRuleItem}

@@ -19,7 +19,7 @@ use Rattle.sp_spec_text.specs.Proofs.{SpellsProof}
 use Rattle.sp_spec_text.specs.Theories.{SpellsBuiltin, SpellsAttribute, SpellsRestriction, SpellsLemma, SpellsProofPart, SpellsItems, SpellsTheory}
 use Rattle.sp_spec_text.specs.Spans.{IsBehind, EndsAt, EndsWith}
 use Rattle.sp_read_parts.specs.Parts.{IsTerm}
-use Rattle.sp_read_parts.specs.Reading.{OrElse}
+use Rattle.sp_read_formula.specs.Reading.{OrElse}
 use Rattle.sp_read_theory.specs.Made.{Made}
 use Rattle.sp_read_theory.specs.Heuristics.{AreWords}
 use Rattle.sp_read_theory.specs.Rules.{IsRule}

@@ -17,7 +17,7 @@ use crate::blocks::text_block;
 use sp_lex::{Sign, Token};
 use sp_read_parts::ReadFormula;
 use sp_read_parts::cursor::{after, behind};
-use sp_read_parts::quoted::quoted_formula;
+use sp_read_formula::quoted::quoted_formula;
 use sp_read_proof::proof;
 use sp_written::{
     Attribute, Item, Span, TraceKind, WrittenLemma, WrittenProof, WrittenRestriction,

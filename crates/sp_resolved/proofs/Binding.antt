@@ -8,8 +8,7 @@ use Rattle.sp_spec.proofs.Lists.{newest_last}
 use Rattle.sp_spec_text.specs.Shapes.{quantified}
 use Rattle.sp_spec_text.specs.Formulas.{quantified_some}
 use Rattle.sp_spec_text.specs.Declared.{resolved_formula}
-use Rattle.sp_read_parts.specs.Reading.{Joint, conjoint, disjoint, join}
-use Rattle.sp_read_parts.specs.Formulas.{chain}
+use Rattle.sp_read_parts.specs.Formulas.{Joint, conjoint, disjoint, join, chain}
 use Rattle.sp_resolved.specs.Names.{named}
 
 -- ---- a name stands in a list whatever its order

@@ -4,7 +4,7 @@ ghost use Rattle.std.specs.Prelude.{◌≡◌, [], ◌++◌, IfOk, IsOkAnd, map}
 ghost use Rattle.sp_spec.specs.Lists.{newest_first};
 ghost use Rattle.sp_spec.specs.Formula.{happens, equals, not_so, both, either, implies};
 ghost use Rattle.sp_fact.specs.GroundView.{symbol_of};
-ghost use Rattle.sp_read_parts.specs.Reading.{conjoint, disjoint};
+ghost use Rattle.sp_read_parts.specs.Formulas.{conjoint, disjoint};
 ghost use Rattle.sp_read_parts.specs.Views as parts;
 ghost use Rattle.sp_read_parts.specs.Formulas as forms;
 ghost use Rattle.sp_spec_text.specs.Shapes.{quantified};

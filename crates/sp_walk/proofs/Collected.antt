@@ -7,7 +7,7 @@ use Rattle.sp_spec.specs.Formula.{Written, Formula}
 use Rattle.sp_spec_text.specs.Shapes.{quantified}
 use Rattle.sp_spec_text.specs.Formulas.{quantified_some}
 use Rattle.sp_read_parts.specs.Views.{variable}
-use Rattle.sp_read_parts.specs.Reading.{Joint, conjoint, disjoint, join}
+use Rattle.sp_read_parts.specs.Formulas.{Joint, conjoint, disjoint, join}
 use Rattle.sp_read_parts.specs.declared.written.WrittenVariable.{WrittenVariable}
 use Rattle.sp_walk.specs.Atoms.{Atom, collected}
 use Rattle.sp_walk.specs.View.{innermost_first}

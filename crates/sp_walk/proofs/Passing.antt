@@ -3,7 +3,7 @@ use Rattle.std.proofs.Common.{◌≡◌, Bool, true, false, ◌||◌, List, [], 
 use Rattle.sp_spec.specs.Formula.{Written, Formula}
 use Rattle.sp_spec_text.specs.Shapes.{quantified}
 use Rattle.sp_spec_text.specs.Formulas.{quantified_some}
-use Rattle.sp_read_parts.specs.Reading.{Joint, conjoint, disjoint, join}
+use Rattle.sp_read_parts.specs.Formulas.{Joint, conjoint, disjoint, join}
 use Rattle.sp_walk.specs.Atoms.{Atom, any_atom}
 
 pub either_way : (x y : Bool) → (x || y) ≡ ((x || y) || (y || x))

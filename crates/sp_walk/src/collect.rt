@@ -2,7 +2,7 @@
 
 ghost use Rattle.std.specs.Prelude.{◌≡◌, ◌++◌, List, [], IfOk, OnOk, map};
 ghost use Rattle.sp_spec.specs.Formula as formulas;
-ghost use Rattle.sp_read_parts.specs.Reading.{Joint};
+ghost use Rattle.sp_read_parts.specs.Formulas.{Joint};
 ghost use Rattle.sp_read_parts.specs.Formulas as written;
 ghost use Rattle.sp_walk.specs.Atoms as spec;
 ghost use Rattle.sp_walk.specs.View.{atom_of, innermost_first};

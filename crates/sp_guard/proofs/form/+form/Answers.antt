@@ -1,6 +1,6 @@
 use Rattle.std.proofs.Common.{refl, ◌∙◌}
 use Rattle.std.specs.Prelude.{option_map}
-use Rattle.sp_read_parts.specs.Reading.{conjoint, disjoint}
+use Rattle.sp_read_parts.specs.Formulas.{conjoint, disjoint}
 use Rattle.sp_read_parts.proofs.Chains.{chain_seen}
 use Rattle.sp_formula.specs.FormulaView.{formula_of}
 use Rattle.sp_law_guard.specs.GuardedForm.{guarded_form, both_forms, conjunction, disjunction}

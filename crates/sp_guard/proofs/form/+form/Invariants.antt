@@ -1,7 +1,6 @@
 use Rattle.std.proofs.Common.{◌≡◌, map, option_map, take}
 use Rattle.sp_spec.specs.Formula.{Formula}
-use Rattle.sp_read_parts.specs.Reading.{conjoint, disjoint}
-use Rattle.sp_read_parts.specs.Formulas.{chain, formula}
+use Rattle.sp_read_parts.specs.Formulas.{conjoint, disjoint, chain, formula}
 use Rattle.sp_formula.specs.FormulaView.{formula_of}
 use Rattle.sp_law_guard.specs.GuardedForm.{guarded_form}
 use Rattle.sp_guard.specs.View.{innermost_first}

@@ -1,7 +1,6 @@
 use Rattle.std.proofs.Common.{◌≡◌, map, take}
 use Rattle.sp_spec.specs.Formula.{Formula}
-use Rattle.sp_read_parts.specs.Reading.{Joint}
-use Rattle.sp_read_parts.specs.Formulas.{chain, formula}
+use Rattle.sp_read_parts.specs.Formulas.{Joint, chain, formula}
 use Rattle.sp_law_guard.specs.CheckedForm.{marks_fit}
 use Rattle.sp_guard.specs.View.{innermost_first}
 use Rattle.sp_guard.proofs.marks.+marks.Given as goal

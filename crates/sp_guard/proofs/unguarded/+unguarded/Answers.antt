@@ -2,8 +2,7 @@ use Rattle.std.proofs.Common.{◌≡◌, ℕ, List, Option, IfOk, ⊎_elim, ◌+
 use Rattle.sp_spec_text.specs.Shapes.{quantified}
 use Rattle.sp_spec_text.specs.Formulas.{quantified_some}
 use Rattle.sp_read_parts.specs.Views.{variable}
-use Rattle.sp_read_parts.specs.Reading.{Joint, conjoint, disjoint, join}
-use Rattle.sp_read_parts.specs.Formulas.{chain, formula}
+use Rattle.sp_read_parts.specs.Formulas.{Joint, conjoint, disjoint, join, chain, formula}
 use Rattle.sp_read_parts.specs.declared.written.ReadFormula.{ReadFormula}
 use Rattle.sp_read_parts.specs.declared.written.WrittenVariable.{WrittenVariable}
 use Rattle.sp_read_parts.proofs.Shown.{both_shown, either_shown, every_shown, some_shown}

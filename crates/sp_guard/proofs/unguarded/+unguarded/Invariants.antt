@@ -1,7 +1,6 @@
 use Rattle.std.proofs.Common.{◌≡◌, map, take}
 use Rattle.sp_spec.specs.Formula.{Formula}
-use Rattle.sp_read_parts.specs.Reading.{Joint}
-use Rattle.sp_read_parts.specs.Formulas.{chain, formula}
+use Rattle.sp_read_parts.specs.Formulas.{Joint, chain, formula}
 use Rattle.sp_guard.specs.View.{innermost_first}
 use Rattle.sp_guard.specs.Unguarded.{nothing_above, unguarded}
 use Rattle.sp_guard.specs.FirstNamed.{name_of}

@@ -1,4 +1,4 @@
-use Rattle.sp_read_parts.specs.Reading.{first, second}
+use Rattle.sp_read_formula.specs.Reading.{first, second}
 use Rattle.sp_read_theory.specs.Made.{made_of}
 use Rattle.sp_read_theory.proofs.Making.{made_none}
 use Rattle.sp_read_theory.proofs.attributes.attribute.Goals as goal

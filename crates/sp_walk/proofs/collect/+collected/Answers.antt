@@ -1,8 +1,7 @@
 use Rattle.std.proofs.Common.{◌≡◌, List, OnOk, ⊎_elim, ◌++◌, map, take, sym, ap, ◌∙◌}
 use Rattle.sp_spec.specs.Formula.{Formula}
 use Rattle.sp_spec.proofs.Options.{on_so}
-use Rattle.sp_read_parts.specs.Reading.{Joint, conjoint, disjoint, join}
-use Rattle.sp_read_parts.specs.Formulas.{chain, formula}
+use Rattle.sp_read_parts.specs.Formulas.{Joint, conjoint, disjoint, join, chain, formula}
 use Rattle.sp_read_parts.specs.declared.written.ReadFormula.{ReadFormula}
 use Rattle.sp_read_parts.proofs.Chains.{chain_taken}
 use Rattle.sp_read_parts.proofs.Shown.{both_shown, either_shown, implies_shown, equivalent_shown, every_shown, some_shown}
