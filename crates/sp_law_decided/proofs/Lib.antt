@@ -1,0 +1,15 @@
+pub mod Places
+pub mod Permuted
+pub mod Times
+pub mod Whole
+pub mod Naming
+pub mod Renaming
+pub mod Suggested
+pub mod Sources
+pub mod Learning
+pub mod Entries
+pub mod Listable
+pub mod Candidate
+pub mod Suggests
+pub mod Tested
+pub mod Examples
