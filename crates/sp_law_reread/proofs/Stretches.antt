@@ -10,7 +10,7 @@ use Rattle.sp_spec_proof.specs.Tree.{Tree}
 use Rattle.sp_skel.specs.TreeText.{tree_text}
 use Rattle.sp_spec_text.specs.Written.{WrittenProof}
 use Rattle.sp_spec_text.specs.Spans.{Span, EndsAt, is_feed, goes_on}
-use Rattle.sp_read_theory.specs.Items.{the_end}
+use Rattle.sp_read_listings.specs.Heuristics.{the_end}
 use Rattle.sp_skel.specs.Spelling.{spelled, IsReadable}
 use Rattle.sp_skel.proofs.Blanks.{Lexes, lexes_blank}
 use Rattle.sp_skel.proofs.ReadBack.{lexes_tree}

@@ -5,5 +5,5 @@ mod Stuck
 mod Faithful
 pub mod Apart
 pub mod Taken
-mod LetBindings
-mod Plain
+pub mod LetBindings
+pub mod Plain

@@ -13,11 +13,11 @@ use Rattle.sp_read_parts.proofs.One.{One, parts_one}
 use Rattle.sp_read_formula.proofs.Atomic.{or_else_one, or_else_none}
 use Rattle.sp_read_parts.proofs.Sequence.{Fixed, fixed_none, fixed_one, Then, no_first, no_second, Becomes, no_whole}
 use Rattle.sp_read_parts.proofs.Spelled.{parts_spelled}
-use Rattle.sp_read_theory.specs.Made.{Made, made_of}
-use Rattle.sp_read_theory.specs.Lemmas.{IsValued, valued, IsLoneName, lone_name, IsHiding, IsWordAttribute, IsLemmaAttribute, AreLemmaAttributes, none_said, some_said, IsLemmaHead, lemma_head, IsRestrictionHead, restriction_head}
+use Rattle.sp_read_listings.specs.Made.{made_of}
+use Rattle.sp_read_theory.specs.Lemmas.{IsValued, valued, IsLoneName, lone_name, IsWordAttribute, IsLemmaAttribute, AreLemmaAttributes, none_said, some_said, IsLemmaHead, lemma_head, IsRestrictionHead, restriction_head}
 use Rattle.sp_read_theory.proofs.One.{parts_taken, not_this}
-use Rattle.sp_read_theory.proofs.Making.{made_one, made_none}
-use Rattle.sp_read_theory.proofs.RuleHeads.{names, then_one}
+use Rattle.sp_read_listings.proofs.Making.{made_one, made_none}
+use Rattle.sp_read_rules.proofs.RuleHeads.{names, then_one}
 
 -- ---- a keyword with a name, and a name alone
 

@@ -15,12 +15,13 @@ use Rattle.sp_spec_text.specs.Proofs.{SpellsProof}
 use Rattle.sp_spec_text.specs.Theories as g
 use Rattle.sp_spec_text.specs.Theories.{SpellsQuoted, SpellsKind, SpellsLemma, SpellsRestriction}
 use Rattle.sp_read_theory.specs.Lemmas.{Dashed, NotDashed, IsKind, IsClaim, claim, IsLemmaHead, lemma_head, IsRestrictionHead, restriction_head, IsLemma}
-use Rattle.sp_read_theory.specs.Items.{IsBlock, no_start, by_block, ReadsProofPart, ReadsItem, a_lemma}
+use Rattle.sp_read_listings.specs.Listings.{IsBlock}
+use Rattle.sp_read_theory.specs.Items.{no_start, by_block, ReadsProofPart, ReadsItem, a_lemma}
 use Rattle.sp_spec_text.specs.Spans.{IsBehind}
 use Rattle.sp_read_theory.proofs.One.{kinds}
-use Rattle.sp_read_theory.proofs.RuleHeads.{then_one}
+use Rattle.sp_read_rules.proofs.RuleHeads.{then_one}
 use Rattle.sp_read_theory.proofs.LemmaHeads.{attributes_spelled, attributes_taken, lemma_heads', restriction_heads'}
-use Rattle.sp_read_theory.proofs.Listed.{tail_of}
+use Rattle.sp_read_listings.proofs.Listed.{tail_of}
 
 -- ---- two words and a dash
 

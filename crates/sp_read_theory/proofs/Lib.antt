@@ -1,16 +1,6 @@
 pub mod One
-pub mod Making
-pub mod Balances
-pub mod RuleHeads
-pub mod RuleParts
-pub mod Listed
-pub mod Beginnings
-pub mod Words
-pub mod Follows
 pub mod LemmaHeads
 pub mod LemmaParts
-pub mod Numbers
-pub mod SymbolParts
 pub mod Declared
 pub mod OneTheory
 pub mod Suffix

@@ -9,8 +9,10 @@ use Rattle.sp_read_proof.proofs.One.{proof_one}
 use Rattle.sp_read_proof.proofs.Starts.{begins_proof, proof_word, proof_not_rule, proof_not_lemma, proof_not_end, proof_no_block}
 use Rattle.sp_spec_text.specs.Theories as g
 use Rattle.sp_spec_text.specs.Theories.{SpellsDeclaration, SpellsLemma, SpellsProofPart, SpellsItems, SpellsTheory}
-use Rattle.sp_read_theory.specs.Items.{IsBlock, text_block, IsDeclaration, HasNoProof, no_start, by_block, IsGreedy, the_end, AreItemsToEnd}
-use Rattle.sp_read_theory.proofs.Follows.{items_follow, items_word}
+use Rattle.sp_read_listings.specs.Heuristics.{the_end}
+use Rattle.sp_read_listings.specs.Listings.{IsBlock, text_block}
+use Rattle.sp_read_theory.specs.Items.{IsDeclaration, HasNoProof, no_start, by_block, IsGreedy, AreItemsToEnd}
+use Rattle.sp_read_listings.proofs.Follows.{items_follow, items_word}
 use Rattle.sp_read_theory.proofs.LemmaParts.{lemma_one}
 use Rattle.sp_spec_text.proofs.Words.{restriction_words}
 use Rattle.sp_read_theory.proofs.Declared.{declaration_one, declaration_spelled, declaration_taken, declaration_not_lemma, declaration_not_end, lemma_not_end, rule_start}

@@ -9,18 +9,45 @@ use Rattle.sp_spec_text.specs.Lex.{AreTokens, IsFault, lexemes}
 use Rattle.sp_spec_text.specs.Ends.{is_any, behind_all}
 use Rattle.sp_lex.proofs.One.{tokens_one, not_both}
 use Rattle.sp_lex.proofs.Places.{places_in_order}
-use Rattle.sp_spec_text.specs.Lists.{NoReading}
+use Rattle.sp_spec_text.specs.Lists.{IsNotFirst, NoReading}
 use Rattle.sp_spec_text.specs.Written.{Item, WrittenText}
 use Rattle.sp_spec_text.specs.Spans.{Span}
 use Rattle.sp_spec_text.specs.Theories.{SpellsTheory, theory}
+use Rattle.sp_read_parts.specs.Parts.{IsNameFirst, name}
+use Rattle.sp_read_parts.proofs.Sequence.{Fixed, fixed_none, fixed_one, Then, no_first, no_second, Becomes, no_whole}
+use Rattle.sp_read_rules.proofs.RuleHeads.{names}
 use Rattle.sp_read_theory.specs.Items.{IsOpening, opening, AreItemsToEnd, NoItems, NoTheory}
 use Rattle.sp_spec_text.specs.Spans.{AreSpans, Rise}
 use Rattle.sp_spec_text.specs.Texts.{IsTextOf, IsNoText, ArePlaces}
 use Rattle.sp_read_theory.specs.Views.{seen_from}
-use Rattle.sp_read_theory.proofs.RuleHeads.{opening_one}
 use Rattle.sp_read_theory.proofs.OneTheory.{theory_one}
 use Rattle.sp_read_theory.proofs.Suffix.{three_further}
 use Rattle.sp_read_theory.proofs.Spans.{spans_one, rise, rising, dropped}
+
+-- ---- the opening
+
+pub opening_at : {w : List ℕ} {tokens mid behind rest : List Lexeme} → tokens ≡ word (codes "theory") ∷ mid → IsNameFirst mid w behind → behind ≡ word (codes "begin") ∷ rest → IsOpening tokens w rest
+opening_at e (name h) f = rw (e, f) (opening h)
+
+opening_parts : Becomes IsOpening (Then (Fixed (word (codes "theory"))) (Then IsNameFirst (Fixed (word (codes "begin")))))
+opening_parts = record { part = λ ts x r h. (tt, (x, tt)); reads = λ ts x r h. at h }
+  where
+    at : {ts r : List Lexeme} {x : List ℕ} → IsOpening ts x r → Then (Fixed (word (codes "theory"))) (Then IsNameFirst (Fixed (word (codes "begin")))) ts (tt, (x, tt)) r
+    at (opening {w = w} {rest = r} h) = record { mid = word w ∷ word (codes "begin") ∷ r; first = refl; second = record { mid = word (codes "begin") ∷ r; first = name h; second = refl } }
+
+pub opening_no_theory : {tokens : List Lexeme} → IsNotFirst (word (codes "theory")) tokens → NoReading IsOpening tokens
+opening_no_theory d = no_whole opening_parts (no_first (fixed_none d))
+
+pub opening_no_name : {tokens mid : List Lexeme} → tokens ≡ word (codes "theory") ∷ mid → NoReading IsNameFirst mid → NoReading IsOpening tokens
+opening_no_name e n = no_whole opening_parts (no_second {x = tt} fixed_one e (no_first n))
+
+pub opening_no_begin : {w : List ℕ} {tokens mid behind : List Lexeme} → tokens ≡ word (codes "theory") ∷ mid → IsNameFirst mid w behind → IsNotFirst (word (codes "begin")) behind → NoReading IsOpening tokens
+opening_no_begin e h d = no_whole opening_parts (no_second {x = tt} fixed_one e (no_second names h (fixed_none d)))
+
+pub ruleset openings = (opening_at, opening_no_theory, opening_no_name, opening_no_begin)
+
+pub opening_one : {tokens r q : List Lexeme} {w u : List ℕ} → IsOpening tokens w r → IsOpening tokens u q → (w ≡ u) × (r ≡ q)
+opening_one (opening h) (opening k) = (refl, refl)
 
 -- ---- tokens
 

@@ -10,7 +10,7 @@ use Rattle.sp_spec_text.specs.Lists.{IsNotFirst, AreParts}
 use Rattle.sp_spec_text.specs.Written.{Attribute, hiding, ranked_by}
 use Rattle.sp_spec_text.specs.Theories.{SpellsQuoted, SpellsKind, SpellsLemma}
 use Rattle.sp_read_formula.specs.Reading.{OrElse}
-use Rattle.sp_read_theory.specs.Made.{Made}
+use Rattle.sp_read_listings.specs.Made.{Made}
 
 -- ---- attributes
 

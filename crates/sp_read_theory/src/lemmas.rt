@@ -13,11 +13,11 @@ ghost use Rattle.sp_read_theory.specs.Views as view;
 ghost use Rattle.sp_read_theory.specs.Views.{seen_from};
 
 use crate::attributes::{lemma_head, restriction_head};
-use crate::blocks::text_block;
 use sp_lex::{Sign, Token};
 use sp_read_parts::ReadFormula;
 use sp_read_parts::cursor::{after, behind};
 use sp_read_formula::quoted::quoted_formula;
+use sp_read_listings::blocks::text_block;
 use sp_read_proof::proof;
 use sp_written::{
     Attribute, Item, Span, TraceKind, WrittenLemma, WrittenProof, WrittenRestriction,
@@ -194,7 +194,7 @@ fn restriction<'a>(
 }
 
 /// The item of a restriction, and the place behind it.
-#[tactic(auto, using(crate::proofs::Making::items_made))]
+#[tactic(auto, using(sp_read_listings::proofs::Making::items_made))]
 pub fn restriction_item<'a>(
     alloc: Global,
     tokens: &[Token<'a>],

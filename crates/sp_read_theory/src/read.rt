@@ -1,18 +1,32 @@
-ghost use Rattle.std.specs.Prelude.{◌≡◌, MatchOption, IfSome, IfOk, ◌≤◌, length, drop};
+ghost use Rattle.std.specs.Prelude.{◌≡◌, MatchOption, IfSome, IfOk, ◌≤◌, ◌<◌, length, drop};
 ghost use Rattle.sp_spec_text.specs.Ends as places;
 ghost use Rattle.sp_lex.specs.Views.{tokens_of};
+ghost use Rattle.sp_spec_text.specs.Lists.{NoReading};
 ghost use Rattle.sp_spec_text.specs.Theories.{SpellsTheory};
-ghost use Rattle.sp_read_theory.specs.Items.{NoTheory};
+ghost use Rattle.sp_read_theory.specs.Items.{IsOpening, NoTheory};
 ghost use Rattle.sp_spec_text.specs.Spans.{AreSpans, Rise};
 ghost use Rattle.sp_spec_text.specs.Texts.{IsTextOf, IsNoText, ArePlaces};
 ghost use Rattle.sp_read_theory.specs.Views as view;
-ghost use Rattle.sp_read_theory.specs.Views.{seen};
+ghost use Rattle.sp_read_theory.specs.Views.{seen, seen_from};
 
-use crate::heads::opening;
 use crate::items::items;
 use sp_lex::{LexError, Token, tokens};
+use sp_read_parts::cursor::behind;
+use sp_read_parts::terms::name;
 use sp_written::ReadTheory;
 use std::alloc::{AllocError, Global};
+
+/// The name of a theory between `theory` and `begin`, and the place behind them.
+#[tactic(auto, using(crate::proofs::Whole::openings))]
+fn opening<'a>(tokens: &[Token<'a>], at: usize) -> Option<(&'a str, usize)>
+    ensures value { MatchOption result (NoReading IsOpening (seen_from tokens.now at)) (λ x. IsOpening (seen_from tokens.now at) x.0.now (seen_from tokens.now x.1)) }
+    ensures further { IfSome result (λ x. (at < x.1) × (x.1 ≤ length tokens.now)) }
+{
+    let named = behind("theory", tokens, at)?;
+    let (found, begin) = name(tokens, named)?;
+    let rest = behind("begin", tokens, begin)?;
+    Some((found, rest))
+}
 
 /// The place behind the last token.
 fn behind_all(tokens: &[Token]) -> usize

@@ -1,6 +1,6 @@
 use Rattle.sp_read_formula.specs.Reading.{first, second}
-use Rattle.sp_read_theory.specs.Made.{made_of}
-use Rattle.sp_read_theory.proofs.Making.{made_none}
+use Rattle.sp_read_listings.specs.Made.{made_of}
+use Rattle.sp_read_listings.proofs.Making.{made_none}
 use Rattle.sp_read_theory.proofs.attributes.attribute.Goals as goal
 
 pub returns-in-Some-clause-value : goal.returns-in-Some-clause-value

@@ -1,4 +1,4 @@
-use Rattle.sp_read_theory.specs.Made.{made_of}
+use Rattle.sp_read_listings.specs.Made.{made_of}
 use Rattle.sp_read_theory.proofs.lemmas.restriction_item.Goals as goal
 
 pub returns-clause-value : goal.returns-clause-value

@@ -1,0 +1,4 @@
+pub mod Made
+pub mod Heuristics
+pub mod Listings
+pub mod Views

@@ -1,0 +1,4 @@
+pub mod One
+pub mod Balances
+pub mod RuleHeads
+pub mod RuleParts

@@ -1,5 +1,0 @@
-use Rattle.sp_read_theory.proofs.Beginnings.{begins_end}
-use Rattle.sp_read_theory.proofs.heuristic.begins_item.Goals as goal
-
-pub returns-in-Some : goal.returns-in-Some
-returns-in-Some c = begins_end c.in-Some.ensures.value
