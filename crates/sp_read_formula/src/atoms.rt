@@ -6,12 +6,12 @@ ghost use Rattle.sp_read_parts.specs.Views as parts;
 ghost use Rattle.sp_read_parts.specs.Views.{seen_from};
 ghost use Rattle.sp_read_parts.specs.Formulas as view;
 
+use sp_fact::fact::Action;
+use sp_lex::{Sign, Token};
 use sp_read_parts::cursor::{after, behind};
 use sp_read_parts::facts::fact;
 use sp_read_parts::terms::{LIMIT, term, variable};
 use sp_read_parts::{ReadFormula, WrittenAction, WrittenFact};
-use sp_fact::fact::Action;
-use sp_lex::{Sign, Token};
 use std::alloc::{AllocError, Global};
 
 /// Two terms that are equal, and the place behind them.

@@ -5,10 +5,10 @@ ghost use Rattle.sp_read_formula.specs.Lets.{IsBinding};
 ghost use Rattle.sp_read_parts.specs.Views as view;
 ghost use Rattle.sp_read_parts.specs.Views.{seen_from};
 
+use sp_lex::{Sign, Token};
+use sp_read_parts::WrittenBinding;
 use sp_read_parts::cursor::{after, behind};
 use sp_read_parts::terms::{term, variable};
-use sp_read_parts::WrittenBinding;
-use sp_lex::{Sign, Token};
 use std::alloc::{AllocError, Global};
 
 /// A variable, `=` and a term, and the place behind them.

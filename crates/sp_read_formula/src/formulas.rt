@@ -13,11 +13,11 @@ ghost use Rattle.sp_read_parts.specs.Formulas as view;
 ghost use Rattle.sp_read_formula.specs.Given as given;
 
 use crate::atoms::atom;
+use sp_lex::{Sign, Token};
 use sp_read_parts::binders::binders;
 use sp_read_parts::cursor::{after, behind};
 use sp_read_parts::terms::LIMIT;
 use sp_read_parts::{ReadFormula, WrittenVariable};
-use sp_lex::{Sign, Token};
 use std::alloc::{AllocError, Global};
 
 /// Whether a quantifier is `All`, and the place behind it.

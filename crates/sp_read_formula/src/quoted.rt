@@ -8,10 +8,10 @@ ghost use Rattle.sp_spec_text.specs.Theories.{SpellsQuoted};
 ghost use Rattle.sp_read_parts.specs.Views.{seen, seen_from};
 ghost use Rattle.sp_read_parts.specs.Formulas as view;
 
-use sp_read_parts::cursor::{after, split};
 use crate::formulas::{formula, whole};
-use sp_read_parts::ReadFormula;
 use sp_lex::{Lexeme, Sign, Token, Wide};
+use sp_read_parts::ReadFormula;
+use sp_read_parts::cursor::{after, split};
 use std::alloc::{AllocError, Global};
 
 /// The text beside a sign of logic.

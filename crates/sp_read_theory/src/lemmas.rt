@@ -14,10 +14,10 @@ ghost use Rattle.sp_read_theory.specs.Views.{seen_from};
 
 use crate::attributes::{lemma_head, restriction_head};
 use sp_lex::{Sign, Token};
-use sp_read_parts::ReadFormula;
-use sp_read_parts::cursor::{after, behind};
 use sp_read_formula::quoted::quoted_formula;
 use sp_read_listings::blocks::text_block;
+use sp_read_parts::ReadFormula;
+use sp_read_parts::cursor::{after, behind};
 use sp_read_proof::proof;
 use sp_written::{
     Attribute, Item, Span, TraceKind, WrittenLemma, WrittenProof, WrittenRestriction,

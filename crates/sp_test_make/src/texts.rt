@@ -2,8 +2,8 @@
 
 use sp_fact::fact::{Action, Facts};
 use sp_lex::{Sign, Token, tokens};
-use sp_read_parts::facts::fact_list;
 use sp_read_formula::formulas::formula;
+use sp_read_parts::facts::fact_list;
 use sp_read_parts::{ReadFormula, WrittenFact, WrittenRule};
 use std::alloc::Global;
 use std::test::Fail;
