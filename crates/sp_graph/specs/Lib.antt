@@ -1,0 +1,4 @@
+pub mod Edges
+pub mod EdgesView
+pub mod Graph
+pub mod Laws
