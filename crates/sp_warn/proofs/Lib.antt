@@ -1,0 +1,10 @@
+pub mod Counted
+pub mod Gathered
+pub mod Grouping
+pub mod LookedUp
+pub mod Namesakes
+pub mod SameForms
+pub mod SameMade
+pub mod Seen
+pub mod Stepping
+pub mod Telling

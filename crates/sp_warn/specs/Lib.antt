@@ -1,0 +1,11 @@
+pub mod Constants
+pub mod Firsts
+pub mod FormView
+pub mod Forms
+pub mod Groups
+pub mod TextsView
+pub mod Told
+pub mod ToldLaws
+pub mod View
+pub mod Warning
+pub mod Warnings
