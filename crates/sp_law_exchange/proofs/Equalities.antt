@@ -1,28 +1,20 @@
 -- Where the equations have no names, equal terms are equal with other names, and normal terms are normal.
 use Rattle.std.proofs.Common.{◌≡◌, List, [], ◌∷◌, map, refl, sym, ap, ◌∙◌}
-use Rattle.sp_spec.specs.Term.{Variable, Term, var, constant, name, app, Terms, none, more, Names, MadeOf, AllMadeOf, Ground, Grounds, Values, valued}
+use Rattle.sp_spec.specs.Term.{Variable, Term, var, constant, name, app, none, more, MadeOf, Ground, Grounds, Values, valued}
 use Rattle.sp_spec.specs.Signature.{Equation}
 use Rattle.sp_spec.specs.Equal.{Rewriting, at_root, below, RewritingIn, here, there, Equal, end, forth, back, EqualAll, MatchesNone, IsNormal, AreNormal, AreNormalFormsOf}
 use Rattle.sp_spec.specs.Rule.{Fact, Action, Facts, AreNormalFacts, AreNormalActions, IsNormalFormOf, SameAction}
 use Rattle.sp_law_equal.specs.Right.{no_names, HaveNoNames}
 use Rattle.sp_law_exchange.specs.Laws.{any_variable}
 use Rattle.sp_law_exchange.specs.Renaming.{Renaming, renamed, renamed_all, fact_renamed, action_renamed, facts_renamed, values_renamed, kept_by, TakesBack}
-use Rattle.sp_law_exchange.proofs.Names.{term_names, all_term_names}
+use Rattle.sp_law_exchange.proofs.Names.{term_names}
 use Rattle.sp_law_exchange.proofs.Terms.{valued_renamed, sorts_renamed, taken_back}
-
--- a term without names has such names as one likes
-module _ (N : Names) where
-  nameless : (t : Term Variable) → MadeOf no_names any_variable t → MadeOf N any_variable t
-  nameless t h = term_names no_names N (λ a k. absurd k) any_variable any_variable (λ x p. p) t h
-
-  pub all_nameless : (ts : Terms Variable) → AllMadeOf no_names any_variable ts → AllMadeOf N any_variable ts
-  all_nameless ts h = all_term_names no_names N (λ a k. absurd k) any_variable any_variable (λ x p. p) ts h
 
 module _ (es : List Equation) (without : HaveNoNames es) where
   module _ (r : Renaming) where
     -- the value of a term without names, with other names
     pub instance_renamed : (v : Values) (t : Term Variable) → MadeOf no_names any_variable t → renamed r (valued v t) ≡ valued (values_renamed r v) t
-    instance_renamed v t h = valued_renamed r any_variable v (values_renamed r v) (λ x k. refl) t (nameless (kept_by r) t h)
+    instance_renamed v t h = valued_renamed r any_variable v (values_renamed r v) (λ x k. refl) t (term_names no_names (kept_by r) (λ a k. absurd k) any_variable any_variable (λ x p. p) t h)
 
     mutual
       rewriting_renamed : {t u : Ground} → Rewriting es t u → Rewriting es (renamed r t) (renamed r u)

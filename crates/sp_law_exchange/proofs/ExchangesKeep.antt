@@ -2,7 +2,7 @@
 use Rattle.std.proofs.Common.{◌≡◌, ℕ, false, List, sym, ap, ◌∙◌, true≢false}
 use Rattle.std.specs.Prelude.{◌↔◌}
 use Rattle.sp_spec.specs.Lists.{Member, Every, is_listed}
-use Rattle.sp_spec.specs.Term.{Name, public_name, Variable, Term, MadeOf}
+use Rattle.sp_spec.specs.Term.{public_name, Variable, Term, MadeOf}
 use Rattle.sp_spec.specs.Signature.{Signature}
 use Rattle.sp_spec.specs.Rule.{Rule, FactsMadeOf}
 use Rattle.sp_spec.specs.Theory.{Theory, signature_of}
@@ -37,25 +37,22 @@ pub unlisted_stay : (es : List Exchange) (listed : List (List ℕ)) → Every (I
 unlisted_stay es listed h = every_from _ listed (λ c m. exchanges_keep es (public_name c) (every_weaken (IsUnlisted listed) (λ (e : Exchange). IsApart e (public_name c)) (λ e u. unlisted_apart listed e u c m) es h))
 
 module _ (es : List Exchange) where
-  keep : (a : Name) → apart_from es a → kept_by (exchanges es) a
-  keep = exchanges_keep es
-
   rules_kept : (rules : List Rule) → Every (λ (rule : Rule). FactsMadeOf (apart_from es) any_variable rule.facts) rules → Every (λ (rule : Rule). FactsMadeOf (kept_by (exchanges es)) any_variable rule.facts) rules
-  rules_kept rules h = every_weaken _ _ (λ (rule : Rule). facts_names (apart_from es) (kept_by (exchanges es)) keep any_variable any_variable (λ x p. p) rule.facts) rules h
+  rules_kept rules h = every_weaken _ _ (λ (rule : Rule). facts_names (apart_from es) (kept_by (exchanges es)) (exchanges_keep es) any_variable any_variable (λ x p. p) rule.facts) rules h
 
   formula_kept : (f : Guarded) → InFormula (apart_from es) any_variable any_time f → InFormula (kept_by (exchanges es)) any_variable any_time f
-  formula_kept f h = formula_names (apart_from es) (kept_by (exchanges es)) keep any_variable any_time f h
+  formula_kept f h = formula_names (apart_from es) (kept_by (exchanges es)) (exchanges_keep es) any_variable any_time f h
 
   system_kept : (s : System) → SystemHasNames (apart_from es) s → SystemHasNames (kept_by (exchanges es)) s
   system_kept s h =
       let N = apart_from es in
       let M = kept_by (exchanges es) in
       record {
-        events = every_weaken (InEvent N any_variable any_time) (InEvent M any_variable any_time) (event_names N M keep any_variable any_time) s.events h.events;
+        events = every_weaken (InEvent N any_variable any_time) (InEvent M any_variable any_time) (event_names N M (exchanges_keep es) any_variable any_time) s.events h.events;
         formulas = every_weaken (InFormula N any_variable any_time) (InFormula M any_variable any_time) formula_kept s.formulas h.formulas;
         spent = every_weaken (InFormula N any_variable any_time) (InFormula M any_variable any_time) formula_kept s.spent h.spent;
         unequal = every_weaken (λ (p : Term Variable × Term Variable). MadeOf N any_variable p.0 × MadeOf N any_variable p.1) (λ (p : Term Variable × Term Variable). MadeOf M any_variable p.0 × MadeOf M any_variable p.1)
-            (pair_names N M keep any_variable any_time) s.unequal h.unequal;
+            (pair_names N M (exchanges_keep es) any_variable any_time) s.unequal h.unequal;
       }
 
 pub logs_exchanged : (theory : Theory) (es : List Exchange) → TheoryHasNames (apart_from es) theory → (log : Log) → IsLog theory log → IsLog theory (log_renamed (exchanges es) log)

@@ -63,7 +63,7 @@ is_asked s i j cs e =
 
 module _ (s : System) (i j : ℕ) (cs : List Case) (e : compare_cases s i j ≡ Some cs) where
   -- its cases keep the numbers
-  pub compare_numbered : {N : Names} → IsNumbered N s → Every (Later N s.next) (systems_in cs)
+  compare_numbered : {N : Names} → IsNumbered N s → Every (Later N s.next) (systems_in cs)
   compare_numbered {N} n =
       let a = is_asked s i j cs e in
       let iu = time_has (TimeUnder s.next) s i a.first (times_under s n) in
@@ -72,14 +72,6 @@ module _ (s : System) (i j : ℕ) (cs : List Case) (e : compare_cases s i j ≡ 
       λ p u. (order_numbered s n (s.order ++ p ∷ []) (every_append (BothUnder s.next) s.order (p ∷ []) n.order (u, tt)), le_refl s.next) in
       subst (λ (x : List Case). Every (Later N s.next) (systems_in x)) (sym a.cases)
       (pair_numbered (i, j) (iu, ju), (formula_numbered s n (holds (same_time (free_time i) (free_time j))) (iu, ju), (pair_numbered (j, i) (ju, iu), tt)))
-
-  -- no two events of a case have one time
-  pub compare_once : HappenOnce s.events → Every IsOnce (systems_in cs)
-  compare_once once = subst (λ (x : List Case). Every IsOnce (systems_in x)) (sym (is_asked s i j cs e).cases) (once, (once, (once, tt)))
-
-  -- The move keeps what systems of a proof fulfil.
-  pub compare_kept : (context : Context) → IsWellMade context s → Every (IsKept context s) (systems_in cs)
-  compare_kept context made = each_kept context s (systems_in cs) (compare_numbered made.numbered) (compare_once made.once)
 
   module _ (theory : Theory) where
     -- the positions are in order, or one
@@ -103,3 +95,9 @@ module _ (s : System) (i j : ℕ) (cs : List Case) (e : compare_cases s i j ≡ 
             let a = is_asked s i j cs e in
             in_order log v h (time_has (λ (k : ℕ). v.times k < length log) s i a.first placed) (time_has (λ (k : ℕ). v.times k < length log) s j a.second placed) none
             (cases_order (v.times i) (v.times j))
+
+-- It keeps what systems of a proof fulfil: no two events of a case have one time.
+pub compare_kept : (context : Context) (s : System) (i j : ℕ) (cs : List Case) → compare_cases s i j ≡ Some cs → IsWellMade context s → Every (IsKept context s) (systems_in cs)
+compare_kept context s i j cs e made =
+    each_kept context s (systems_in cs) (compare_numbered s i j cs e made.numbered)
+    (subst (λ (x : List Case). Every IsOnce (systems_in x)) (sym (is_asked s i j cs e).cases) (made.once, (made.once, (made.once, tt))))
