@@ -3,6 +3,7 @@ use Rattle.std.proofs.Common.{◌≡◌, ℕ, zero, suc, ◌+◌, ◌-◌, ◌<�
 use Rattle.std.proofs.lemmas.Bool.{eq-eqb, eqb-true, ne_eqb}
 use mathlib.Core.List.{append_assoc, append-nil}
 use Rattle.sp_spec.proofs.Bools.{same_tests}
+use Rattle.sp_spec.proofs.Lists.{newest_count}
 use Rattle.sp_spec.specs.Rule.{Action}
 use Rattle.sp_spec.specs.Execution.{Trace}
 use Rattle.sp_spec.specs.Guarded.{Place, Time, Atom}
@@ -14,13 +15,6 @@ use Rattle.sp_eval.specs.View.{environment_of, environments_of}
 module _ {A : Type 0} where
   pub newest_more : (x : A) (xs past : List A) → newest_first (x ∷ xs) ++ past ≡ newest_first xs ++ x ∷ past
   newest_more x xs past = append_assoc (newest_first xs) (x ∷ []) past
-
-  newest_length : (xs past : List A) → length (newest_first xs ++ past) ≡ length xs + length past
-  newest_length [] past = omega arith
-  newest_length (x ∷ xs) past = let e = ap length (newest_more x xs past) in let f = newest_length xs (x ∷ past) in omega (arith, e, f)
-
-  pub newest_count : (xs : List A) → length (newest_first xs) ≡ length xs
-  newest_count xs = let e = ap length (append-nil (newest_first xs)) in let f = newest_length xs [] in omega (arith, e, f)
 
 -- the position before that of all entries' number is that of the newest
 pub at_newest : (p n m : ℕ) → 0 < n → m ≡ n → (p == n - 1) ≡ (suc p == m)

@@ -2,7 +2,7 @@
 use Rattle.std.proofs.Common.{◌≡◌, ℕ, List, [], ◌∷◌, ◌++◌, length, map, inl, inr, refl, sym, ap, ◌∙◌, subst}
 use Rattle.std.proofs.lemmas.List.{map-append}
 use Rattle.sp_spec.specs.Lists.{Member, Every, AtPlace, AtPosition, newest_first}
-use Rattle.sp_spec.proofs.Lists.{every_member, every_from, place_map, place_member, length_map, newest_twice}
+use Rattle.sp_spec.proofs.Lists.{every_member, every_from, place_map, place_member, length_map, newest_count, newest_twice}
 use Rattle.sp_spec.specs.Term.{Sort, Msg, Fresh, Pub, Variable, Term, var, constant, valued}
 use Rattle.sp_spec.specs.Signature.{HasSort}
 use Rattle.sp_spec.specs.Theory.{Theory}
@@ -19,7 +19,7 @@ use Rattle.sp_law_exchange.proofs.LeadingValues.{values_lead, sorts_are_kinds}
 use Rattle.sp_law_exchange.proofs.ExchangesKeep.{unlisted_stay}
 use Rattle.sp_law_decided.specs.Decided.{IsDecided, StandApart}
 use Rattle.sp_law_decided.specs.Laws.{DecidedLogsAreTheCandidate}
-use Rattle.sp_law_decided.proofs.Places.{same_lists, length_newest, position_place}
+use Rattle.sp_law_decided.proofs.Places.{same_lists, position_place}
 use Rattle.sp_law_decided.proofs.Whole.{of_system, as_many, position_is}
 use Rattle.sp_law_decided.proofs.Naming.{apart_by_sorts, values_unlisted}
 use Rattle.sp_law_decided.proofs.Suggested.{as_many_entries, suggested_at, IsListing, listing_of}
@@ -104,7 +104,7 @@ module _ (theory : Theory) (constants : List (List ℕ)) (s : System) (decided :
     lengths =
         as_many_entries listing.listed s.links (values_of constants listing.listed) listing.listed entries listing.are
         ∙ as_many theory constants s decided log v solves listing.listed listing.is_order
-        ∙ sym (length_newest log) ∙ sym (length_map (entry_renamed (exchanges es)) (newest_first log))
+        ∙ sym (newest_count log) ∙ sym (length_map (entry_renamed (exchanges es)) (newest_first log))
 
     becomes : log_renamed (exchanges es) log ≡ newest_first entries
     becomes =

@@ -1,8 +1,8 @@
 -- Lists by their places: equal lists, the oldest entry first, and times that rise over all positions.
-use Rattle.std.proofs.Common.{◌≡◌, ⊎_elim, ◌≤◌, ◌<◌, ℕ, zero, suc, ◌+◌, List, [], ◌∷◌, ◌++◌, length, inl, inr, refl, sym, ap, ap₂, ◌∙◌, subst, arith, length-append}
+use Rattle.std.proofs.Common.{◌≡◌, ⊎_elim, ◌≤◌, ◌<◌, ℕ, zero, suc, ◌+◌, List, [], ◌∷◌, ◌++◌, length, inl, inr, refl, sym, ap, ap₂, ◌∙◌, subst, arith}
 use Rattle.std.proofs.Math.Nat.{eq-or-lt_of_le}
 use Rattle.sp_spec.specs.Lists.{Member, Every, AtPlace, AtPosition, newest_first}
-use Rattle.sp_spec.proofs.Lists.{every_member, every_weaken}
+use Rattle.sp_spec.proofs.Lists.{every_member, every_weaken, newest_count}
 
 -- lists that have the same at each place
 pub same_lists : {A : Type 0} (xs ys : List A) → length xs ≡ length ys → ((k : ℕ) (x : A) → AtPlace xs k x → AtPlace ys k x) → xs ≡ ys
@@ -22,16 +22,12 @@ place_end : {A : Type 0} (xs : List A) (x : A) → AtPlace (xs ++ x ∷ []) (len
 place_end [] x = refl
 place_end (z ∷ xs) x = place_end xs x
 
-pub length_newest : {A : Type 0} (xs : List A) → length (newest_first xs) ≡ length xs
-length_newest [] = refl
-length_newest (x ∷ xs) = let a = length-append (newest_first xs) (x ∷ []) in let b = length_newest xs in omega (arith, a, b)
-
 -- what stands at a position stands at that place of the list that has the oldest first
 pub position_place : {A : Type 0} (xs : List A) (p : ℕ) (x : A) → AtPosition xs p x → AtPlace (newest_first xs) p x
 position_place [] p x a = absurd a
 position_place (y ∷ xs) p x (inl a) =
     subst (λ (z : _). AtPlace (newest_first xs ++ y ∷ []) p z) a.1
-    (subst (λ (q : ℕ). AtPlace (newest_first xs ++ y ∷ []) q y) (length_newest xs ∙ sym a.0) (place_end (newest_first xs) y))
+    (subst (λ (q : ℕ). AtPlace (newest_first xs ++ y ∷ []) q y) (newest_count xs ∙ sym a.0) (place_end (newest_first xs) y))
 position_place (y ∷ xs) p x (inr a) = place_front (newest_first xs) (y ∷ []) p x (position_place xs p x a)
 
 -- ---- times that rise

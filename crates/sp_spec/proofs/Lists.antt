@@ -1,5 +1,5 @@
 -- What holds of each element, members, elements at positions, and lists without twice the same.
-use Rattle.std.proofs.Common.{◌≡◌, ◌⊎◌, ◌<◌, ◌+◌, ℕ, zero, suc, List, [], ◌∷◌, ◌++◌, map, length, drop, drop-cons, get_or, add-one, append_assoc, append-nil, inl, inr, refl, sym, ap, ap₂, ◌∙◌, subst, Some, slice_get, arith}
+use Rattle.std.proofs.Common.{◌≡◌, ◌⊎◌, ◌<◌, ◌+◌, ℕ, zero, suc, List, [], ◌∷◌, ◌++◌, map, length, drop, drop-cons, get_or, add-one, append_assoc, append-nil, length-append, inl, inr, refl, sym, ap, ap₂, ◌∙◌, subst, Some, slice_get, arith}
 use Rattle.sp_spec.specs.Lists.{Member, newest_first, Every, Distinct, AtPlace, AtPosition}
 
 pub every_map : {A B : Type 0} (P : A → Type 0) (Q : B → Type 0) (f : A → B) → ((x : A) → P x → Q (f x)) → (xs : List A) → Every P xs → Every Q (map f xs)
@@ -159,6 +159,10 @@ next_there {A = A} ys xs i x same h e = ap (drop i) (sym same) ∙ next_item ys 
 pub newest_append : {A : Type 0} (xs ys : List A) → newest_first (xs ++ ys) ≡ newest_first ys ++ newest_first xs
 newest_append [] ys = sym (append-nil (newest_first ys))
 newest_append (x ∷ xs) ys = ap (λ zs. zs ++ x ∷ []) (newest_append xs ys) ∙ append_assoc (newest_first ys) (newest_first xs) (x ∷ [])
+
+pub newest_count : {A : Type 0} (xs : List A) → length (newest_first xs) ≡ length xs
+newest_count [] = refl
+newest_count (x ∷ xs) = let a = length-append (newest_first xs) (x ∷ []) in let b = newest_count xs in omega (arith, a, b)
 
 pub newest_last : {A : Type 0} (xs : List A) (y : A) → newest_first (xs ++ y ∷ []) ≡ y ∷ newest_first xs
 newest_last [] y = refl

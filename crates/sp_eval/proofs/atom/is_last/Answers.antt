@@ -1,7 +1,7 @@
 use Rattle.std.proofs.Common.{map, ◌∙◌, arith}
 use Rattle.sp_fact.specs.GroundView.{ground_action, entries_of}
-use Rattle.sp_spec.proofs.Lists.{length_map}
-use Rattle.sp_eval.proofs.Traces.{newest_count, at_newest}
+use Rattle.sp_spec.proofs.Lists.{length_map, newest_count}
+use Rattle.sp_eval.proofs.Traces.{at_newest}
 use Rattle.sp_eval.proofs.atom.is_last.Goals as goal
 
 pub returns-then-count-gt0 : goal.returns-then-count-gt0
