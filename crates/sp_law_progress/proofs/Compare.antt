@@ -1,5 +1,5 @@
--- The move on two times: they are positions of the log, of which one is the smaller, or they are one. It covers where the empty log is no solution.
-use Rattle.std.proofs.Common.{◌≡◌, ◌⊎◌, ◌<◌, ◌&&◌, ◌||◌, ◌==◌, not, nat_lt, ℕ, true, List, [], ◌∷◌, ◌++◌, length, Some, codes, sym, subst, inl, inr, le_refl, arith}
+-- The move on two times: they are positions of the log, of which one is the smaller, or they are one. The system has an event, so that the empty log is no solution.
+use Rattle.std.proofs.Common.{◌≡◌, ◌⊎◌, ◌<◌, ◌&&◌, ◌||◌, ◌==◌, not, nat_lt, ℕ, true, List, [], ◌∷◌, ◌++◌, length, Some, codes, refl, sym, subst, inl, inr, le_refl, arith}
 use Rattle.std.proofs.lemmas.Bool.{and_parts, eqb-true, cases_order}
 use Rattle.sp_spec.specs.Lists.{Every, Member}
 use Rattle.sp_spec.specs.Term.{Names}
@@ -15,6 +15,7 @@ use Rattle.sp_spec_system.specs.Solutions.{Valuation, HappensIn, IsBefore, Solve
 use Rattle.sp_spec_system.specs.Numbered.{HappenOnce, IsNumbered}
 use Rattle.sp_spec_system.specs.Covering.{NoneSolved, Covers}
 use Rattle.sp_spec_system.specs.Move.{Case, Context, systems_in}
+use Rattle.sp_spec_formula.specs.Induction.{is_empty}
 use Rattle.sp_spec_formula.specs.Instantiate.{with_formula}
 use Rattle.sp_spec_graph.specs.Compare.{are_comparable, compare_cases}
 use Rattle.sp_law_system.specs.Proofs.{IsWellMade, IsKept}
@@ -32,8 +33,12 @@ abbrev pub NeedsEntries : Theory → System → Type 0
 NeedsEntries theory s = (v : Valuation) → Solves theory [] v s → ⊥
 
 -- so it is where it has an event
-pub event_needs : (theory : Theory) (s : System) (e : Event) → Member e s.events → NeedsEntries theory s
+event_needs : (theory : Theory) (s : System) (e : Event) → Member e s.events → NeedsEntries theory s
 event_needs theory s e m v h = let there = happened [] (v.times e.time) v e.happening (every_member (HappensIn [] v) s.events e m h.events) in there.1
+
+some_needs : (theory : Theory) (s : System) (events : List Event) → s.events ≡ events → not (is_empty events) ≡ true → NeedsEntries theory s
+some_needs theory s [] e h = absurd cc
+some_needs theory s (event ∷ events) e h = event_needs theory s event (subst (λ (x : List Event). Member event x) (sym e) (inl refl))
 
 -- what holds of each time of the system holds of one that stands there
 time_has : (P : ℕ → Type 0) (s : System) (i : ℕ) → has_time i s ≡ true → Every P (times_in s) → P i
@@ -48,6 +53,7 @@ compared s i j =
 
 -- What the move asks.
 record IsAsked (s : System) (i j : ℕ) (cs : List Case) : Type 0 where
+  pub peopled : not (is_empty s.events) ≡ true
   pub first : has_time i s ≡ true
   pub second : has_time j s ≡ true
   pub cases : cs ≡ compared s i j
@@ -56,10 +62,11 @@ is_asked : (s : System) (i j : ℕ) (cs : List Case) → compare_cases s i j ≡
 is_asked s i j cs e =
     let r = if_some (are_comparable s i j) (Some (compared s i j)) cs e in
     let apart = not (is_before s.order i j || is_before s.order j i) in
-    let a = and_parts (nat_lt i j) (has_time i s && (has_time j s && apart)) r.0 in
+    let p = and_parts (not (is_empty s.events)) (nat_lt i j && (has_time i s && (has_time j s && apart))) r.0 in
+    let a = and_parts (nat_lt i j) (has_time i s && (has_time j s && apart)) p.1 in
     let b = and_parts (has_time i s) (has_time j s && apart) a.1 in
     let c = and_parts (has_time j s) apart b.1 in
-    record { first = b.0; second = c.0; cases = some_same (compared s i j) cs r.1 }
+    record { peopled = p.0; first = b.0; second = c.0; cases = some_same (compared s i j) cs r.1 }
 
 module _ (s : System) (i j : ℕ) (cs : List Case) (e : compare_cases s i j ≡ Some cs) where
   -- its cases keep the numbers
@@ -83,12 +90,12 @@ module _ (s : System) (i j : ℕ) (cs : List Case) (e : compare_cases s i j ≡ 
     in_order log v h ip jp none (inr (inr greater)) =
         none.1.1.0 v (agrees_itself s.next v) (order_solves theory log v s h (s.order ++ (j, i) ∷ []) (every_append (IsBefore log v) s.order ((j, i) ∷ []) h.order ((greater, ip), tt)))
 
-    -- It covers, where a solution has entries.
-    pub compare_covers : NeedsEntries theory s → Covers theory s (systems_in cs)
-    compare_covers needs = record { covers = λ log is v h none. by_log log is v h (subst (λ (x : List Case). NoneSolved theory log v s.next (systems_in x)) (is_asked s i j cs e).cases none) }
+    -- It covers.
+    pub compare_covers : Covers theory s (systems_in cs)
+    compare_covers = record { covers = λ log is v h none. by_log log is v h (subst (λ (x : List Case). NoneSolved theory log v s.next (systems_in x)) (is_asked s i j cs e).cases none) }
       where
         by_log : (log : Log) → IsLog theory log → (v : Valuation) → Solves theory log v s → NoneSolved theory log v s.next (systems_in (compared s i j)) → ⊥
-        by_log [] is v h none = needs v h
+        by_log [] is v h none = some_needs theory s s.events refl (is_asked s i j cs e).peopled v h
         by_log (entry ∷ past) is v h none =
             let log : Log = entry ∷ past in
             let placed = times_placed theory log is v (omega arith) s h in

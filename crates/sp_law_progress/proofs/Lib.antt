@@ -2,7 +2,6 @@ pub mod Occurring
 pub mod Positions
 pub mod Kept
 pub mod Compare
-pub mod CompareLoses
 pub mod Same
 pub mod NewValues
 pub mod Top

@@ -6,11 +6,12 @@ use Rattle.sp_spec_system.specs.System.{System, with_pairs}
 use Rattle.sp_spec_system.specs.Order.{is_before}
 use Rattle.sp_spec_system.specs.Occurring.{has_time}
 use Rattle.sp_spec_system.specs.Move.{Case}
+use Rattle.sp_spec_formula.specs.Induction.{is_empty}
 use Rattle.sp_spec_formula.specs.Instantiate.{with_formula}
 
--- two times of the system, the lower number first, of which neither is before the other
+-- two times of the system, the lower number first, of which neither is before the other; where it has an event, since over the empty log no time has a position
 abbrev pub are_comparable : System → ℕ → ℕ → Bool
-are_comparable s i j = nat_lt i j && (has_time i s && (has_time j s && not (is_before s.order i j || is_before s.order j i)))
+are_comparable s i j = not (is_empty s.events) && (nat_lt i j && (has_time i s && (has_time j s && not (is_before s.order i j || is_before s.order j i))))
 
 abbrev pub compare_cases : System → ℕ → ℕ → Option (List Case)
 compare_cases s i j =
