@@ -1,2 +1,4 @@
 pub mod PairSearches
 pub mod FreshTerms
+pub mod NothingShared
+pub mod Sides

@@ -4,6 +4,15 @@ use Rattle.std.proofs.lemmas.List.{drop_more, drop_all}
 use Rattle.sp_spec_system.specs.Picked.{first_with, first_two, some_with, some_two}
 use Rattle.std.specs.Option.{option_or}
 
+-- where the test holds with no element, none is found
+pub none_with : {S : Type 0} (test : S → S → Bool) (l : S) → ((m : S) → test l m ≡ false) → (ls : List S) → first_with test l ls ≡ None
+none_with test l apart [] = refl
+none_with test l apart (m ∷ ms) = ap (λ b. if b then Some (l, m) else first_with test l ms) (apart m) ∙ none_with test l apart ms
+
+pub none_some : {S : Type 0} (test : S → S → Bool) (l : S) → ((m : S) → test l m ≡ false) → (ls : List S) → some_with test l ls ≡ false
+none_some test l apart [] = refl
+none_some test l apart (m ∷ ms) = ap (λ b. b || some_with test l ms) (apart m) ∙ none_some test l apart ms
+
 module _ {M S : Type 0} (of : M → S) (test : S → S → Bool) where
   -- what is left of the search from i on
   abbrev pub with_left : S → List M → ℕ → Option (S × S)

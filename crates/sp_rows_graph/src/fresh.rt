@@ -5,7 +5,7 @@ ghost use Rattle.sp_term.specs.View.{view};
 ghost use Rattle.sp_fact.specs.View.{fact_of};
 ghost use Rattle.sp_system.specs.SystemView.{event_of};
 ghost use Rattle.sp_spec_graph.specs.Fresh as fresh;
-ghost use Rattle.sp_rows_graph.specs.FreshView.{fresh_one, own_one};
+ghost use Rattle.sp_rows_graph.specs.FreshView.{fresh_one, may_use_fresh, own_one, takes_fr};
 
 use sp_fact::fact::Fact;
 use sp_learnings::premise::is_fresh;
@@ -49,6 +49,29 @@ pub(crate) fn own_name(event: &Event) -> Option<&Term>
     }
 }
 
+// Whether one of the premises is an Fr.
+fn takes_fresh(premises: &Vec<Fact>) -> bool
+    ensures { result ≡ takes_fr (map fact_of premises.now.items) }
+{
+    for premise in premises {
+        if is_fresh(premise) {
+            return true;
+        }
+    }
+    false
+}
+
+/// Whether the event may use an Fr; where it may not, no term of it is compared.
+pub(crate) fn may_use_fresh(event: &Event) -> bool
+    ensures { result ≡ may_use_fresh (event_of event.now).happening }
+{
+    match event.what() {
+        What::Rule(_) => takes_fresh(event.premises()),
+        What::Learn(_, Way::OwnName) => true,
+        _ => false,
+    }
+}
+
 // Whether the event uses the Fr of the term.
 #[tactic(auto, using(crate::proofs::FreshTerms::fresh_seen))]
 fn uses_fresh(term: &Term, event: &Event) -> bool
@@ -61,9 +84,13 @@ fn uses_fresh(term: &Term, event: &Event) -> bool
 }
 
 // Whether the event uses an Fr that one of the premises uses.
+#[tactic(auto, using(crate::proofs::NothingShared::none_used))]
 fn uses_one(premises: &Vec<Fact>, event: &Event) -> bool
     ensures { result ≡ fresh.share_one (fresh.fresh_terms (map fact_of premises.now.items)) (fresh.happening_fresh (event_of event.now).happening) }
 {
+    if !may_use_fresh(event) {
+        return false;
+    }
     for premise in premises {
         if let Some(term) = fresh_term(premise) {
             if uses_fresh(term, event) {

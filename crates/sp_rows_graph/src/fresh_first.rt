@@ -72,11 +72,15 @@ fn comes_later(time: u128, term: &Term, event: &Event) -> bool
     has_taken(term, event.premises()) || has_learnt(term, event) && event.time != time
 }
 
-// Whether the event has the term later, and the time isn't before it.
+// Whether the event has the term later, and the time isn't before it; the order is asked first, as it goes down no term.
+#[tactic(auto, using(crate::proofs::Sides::swapped))]
 fn is_missing(order: &Order, time: u128, term: &Term, event: &Event) -> bool
     ensures { result ≡ rows.is_missing order.now time (view term.now) (event_of event.now) }
 {
-    comes_later(time, term, event) && !order.before(time, event.time)
+    match event.what() {
+        What::Send(_) => false,
+        _ => !order.before(time, event.time) && comes_later(time, term, event),
+    }
 }
 
 // The pairs that put the time before each event that has the term later.

@@ -3,12 +3,12 @@
 ghost use Rattle.std.specs.Prelude.{◌≡◌, ◌≤◌, IfOk, drop, length, map, option_map};
 ghost use Rattle.sp_system.specs.SystemView.{event_of, system_of};
 ghost use Rattle.sp_spec_system.specs.Picked as picked;
-ghost use Rattle.sp_rows_graph.specs.SharedView.{both_times, stay_two, share};
+ghost use Rattle.sp_rows_graph.specs.SharedView.{both_times, is_learning, may_share, share, stay_two};
 
-use crate::fresh::shares_fresh;
+use crate::fresh::{may_use_fresh, shares_fresh};
 use crate::learn_once::learn_same;
 use sp_merge::made_one::stay_apart;
-use sp_system::event::Event;
+use sp_system::event::{Event, What};
 use sp_system::system::System;
 use std::alloc::{AllocError, Global};
 
@@ -30,7 +30,24 @@ fn share(shared: Shared, event: &Event, other: &Event) -> bool
     }
 }
 
+fn is_learning(event: &Event) -> bool
+    ensures { result ≡ is_learning (event_of event.now).happening }
+{
+    matches!(event.what(), What::Learn(_, _))
+}
+
+// Whether the event has what it may share; one that hasn't is compared with no other.
+fn may_share(shared: Shared, event: &Event) -> bool
+    ensures { result ≡ may_share shared (event_of event.now) }
+{
+    match shared {
+        Shared::Fresh => may_use_fresh(event),
+        Shared::Learnt => is_learning(event),
+    }
+}
+
 // The first event from `start` on that shares it with this one.
+#[tactic(auto, using(crate::proofs::NothingShared::none_shared))]
 fn sharing<'a>(
     shared: Shared,
     event: &Event,
@@ -41,6 +58,9 @@ fn sharing<'a>(
     ensures { option_map (λ d. (event_of event.now, event_of d.now)) result
         ≡ picked.first_with (share shared) (event_of event.now) (map event_of (drop start events.now.items)) }
 {
+    if !may_share(shared, event) {
+        return None;
+    }
     for position in start..events.len() {
         let other = &events[position];
         if share(shared, event, other) {
@@ -79,6 +99,7 @@ fn stay_two(
 }
 
 // Whether some event from `start` on shares it with this one, and can't be one with it.
+#[tactic(auto, using(crate::proofs::NothingShared::none_apart))]
 fn fails_with(
     alloc: Global,
     shared: Shared,
@@ -90,6 +111,9 @@ fn fails_with(
     ensures { IfOk result (λ b. b
         ≡ picked.some_with (stay_two shared (system_of system.now)) (event_of event.now) (map event_of (drop start system.now.events.items))) }
 {
+    if !may_share(shared, event) {
+        return Ok(false);
+    }
     for position in start..system.events.len() {
         if stay_two(alloc, shared, system, event, &system.events[position])? {
             return Ok(true);
