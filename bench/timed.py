@@ -9,17 +9,16 @@ import time
 RUNS = 5
 
 
-def timed(prover, command, path):
-    """The least time of some runs, the peak memory in MiB, and what is written. The peak memory is told by GNU `time`."""
-    answer = f"{path}.answer"
+def timed(prover, command, argument, answer):
+    """The least time of some runs that write to the file `answer`, the peak memory in MiB, and what is written. The peak memory is told by GNU `time`."""
     seconds = []
     for _ in range(RUNS):
         with open(answer, "wb") as out:
             start = time.perf_counter()
-            subprocess.run([prover, command, path], stdout=out, check=False)
+            subprocess.run([prover, command, argument], stdout=out, check=False)
             seconds.append(time.perf_counter() - start)
     told = subprocess.run(
-        ["time", "-f", "%M", prover, command, path], stdout=subprocess.DEVNULL, stderr=subprocess.PIPE, check=False
+        ["time", "-f", "%M", prover, command, argument], stdout=subprocess.DEVNULL, stderr=subprocess.PIPE, check=False
     )
     with open(answer, encoding="utf-8") as text:
         written = text.read()
@@ -43,4 +42,4 @@ def each_size(script, provers, command, sizes, text_of):
             for size in sizes:
                 with open(path, "w", encoding="utf-8") as text:
                     text.write(text_of(size))
-                yield size, *timed(prover, command, path)
+                yield size, *timed(prover, command, path, f"{path}.answer")

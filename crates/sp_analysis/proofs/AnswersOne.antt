@@ -1,7 +1,7 @@
 -- Of a text one thing is written.
-use Rattle.std.proofs.Common.{◌≡◌, ℕ, true, true≢false, List, [], ◌∷◌, ◌++◌, Option, Some, None, refl, sym, ap, ap₂, ◌∙◌, subst}
+use Rattle.std.proofs.Common.{◌≡◌, ℕ, true, true≢false, List, [], ◌∷◌, ◌++◌, map, Option, Some, None, refl, sym, ap, ap₂, ◌∙◌, subst}
 use Rattle.sp_spec.specs.Log.{Log}
-use Rattle.sp_spec.specs.Theory.{TraceKind, all_traces, exists_trace, Lemma}
+use Rattle.sp_spec.specs.Theory.{TraceKind, all_traces, exists_trace, Theory, Lemma}
 use Rattle.sp_spec.specs.Written.{theory_of}
 use Rattle.sp_spec.specs.Guarded.{Guarded}
 use Rattle.sp_spec_system.specs.System.{System}
@@ -22,7 +22,7 @@ use Rattle.sp_pose.specs.Problem.{Poses}
 use Rattle.sp_pose.proofs.One.{one_report, not_posed}
 use Rattle.sp_analysis.specs.Taken.{Stated, stated_in, Taken, taken_by}
 use Rattle.sp_analysis.specs.Chosen.{run_among, has_lemma, placed}
-use Rattle.sp_analysis.specs.Replies.{LacksLemma}
+use Rattle.sp_analysis.specs.Replies.{IsShown, LacksLemma}
 use Rattle.sp_analysis.specs.Sought.{root_of, Setting, setting_of, context_of, proof_tree, grown_log}
 use Rattle.sp_spec_printed.specs.Verdict.{Verdict, verified, falsified, incomplete, rejected, Says}
 use Rattle.sp_analysis.specs.Analysis.{Outcome, trees_of, IsOutcome, AreOutcomes, analysed_text, IsAnalysis}
@@ -167,6 +167,15 @@ one_check chosen text written other js others a b =
     let same = same_all_judged (setting_of (theory_in b.theory)) [] (qs b.theory) js others all b.judged_are in
     (a.written_is ∙ ap (checked_text (theory_of (theory_in a.theory))) same ∙ ap (λ (t : WrittenText). checked_text (theory_of (theory_in t)) others) theory ∙ sym b.written_is, same)
 
+one_shown : (shows : Theory → List Outcome → List ℕ) (budget : ℕ) (chosen : Option (List ℕ)) (text written other : List ℕ) (verdicts others : List Verdict)
+    → IsShown shows budget chosen text written verdicts → IsShown shows budget chosen text other others → (written ≡ other) × (verdicts ≡ others)
+one_shown shows budget chosen text written other verdicts others a b =
+    let theory = text_one a.analysis.poses.says b.analysis.poses.says in
+    let same = (one_answer budget chosen text a.analysed b.analysed a.outcomes b.outcomes a.analysis b.analysis).1 in (
+      a.written_is ∙ ap₂ (λ (t : WrittenText) (os : List Outcome). shows (theory_of (theory_in t)) os) theory same ∙ sym b.written_is,
+      a.verdicts_are ∙ ap (map (λ (o : Outcome). o.verdict)) same ∙ sym b.verdicts_are,
+    )
+
 -- a text has the lemma that is named, or lacks it
 not_both : (chosen : Option (List ℕ)) {text : List ℕ} {t : WrittenText} → Poses text t → has_lemma chosen (stated_in (resolved t).items) ≡ true → LacksLemma chosen text → ⊥
 not_both chosen p h l =
@@ -177,14 +186,18 @@ pub answers_are_one_lem : AnswersAreOne
 answers_are_one_lem = record {
   one = one_answer;
   one_check = one_check;
+  one_shown = one_shown;
   one_report = one_report;
   refused = λ text lines place h r. h.nothing.none r.theory r.says;
   no_analysis = λ budget chosen text written place outcomes h a. h.nothing.none a.theory a.poses.says;
   no_checking = λ chosen text written place js h c. h.nothing.none c.theory c.poses.says;
+  no_showing = λ shows budget chosen text written place verdicts h s. h.nothing.none s.analysis.theory s.analysis.poses.says;
   not_analysed = λ budget chosen text lines written outcomes r a. not_posed r a.poses;
   not_checked = λ chosen text lines written js r c. not_posed r c.poses;
+  not_shown = λ shows budget chosen text lines written verdicts r s. not_posed r s.analysis.poses;
   refused_or_lacking = λ chosen text place h l. h.nothing.none l.theory l.poses.says;
   reported_or_lacking = λ chosen text lines r l. not_posed r l.poses;
   analysed_or_lacking = λ budget chosen text written outcomes a l. not_both chosen a.poses a.has l;
   checked_or_lacking = λ chosen text written js c l. not_both chosen c.poses c.has l;
+  shown_or_lacking = λ shows budget chosen text written verdicts s l. not_both chosen s.analysis.poses s.analysis.has l;
 }

@@ -13,3 +13,4 @@ pub mod Walked
 pub mod TakenFor
 pub mod Running
 pub mod ReadRun
+pub mod Counting

@@ -1,9 +1,9 @@
 -- What is printed of the lemmas is what their outcomes say.
-use Rattle.std.proofs.Common.{◌≡◌, ◌≤◌, ℕ, Bool, true, false, if◌then◌else◌, List, [], ◌∷◌, ◌++◌, map, codes, Option, Some, None, option_map, Result, Ok, Err, IfOk, refl, sym, ap, ap₂, ◌∙◌, subst, true≢false}
+use Rattle.std.proofs.Common.{◌≡◌, ◌+◌, arith, ℕ, Bool, true, false, if◌then◌else◌, List, [], ◌∷◌, ◌++◌, map, codes, Option, Some, None, option_map, Result, Ok, Err, IfOk, refl, sym, ap, ap₂, ◌∙◌, subst, true≢false}
 use Rattle.sp_spec.specs.Lists.{Every}
 use Rattle.sp_spec.specs.Rule.{Rule}
 use Rattle.sp_spec.specs.Signature.{Signature}
-use Rattle.sp_spec.specs.Theory.{TraceKind, all_traces, exists_trace}
+use Rattle.sp_spec.specs.Theory.{TraceKind, all_traces, exists_trace, Theory}
 use Rattle.sp_spec.specs.Written.{theory_of}
 use Rattle.sp_spec.specs.Verdict.{names_learning}
 use Rattle.sp_spec.specs.Log.{Log}
@@ -44,19 +44,20 @@ use Rattle.sp_analysis.specs.Sought.{Setting, setting_of, executed, given, conte
 use Rattle.sp_spec_printed.specs.Verdict.{Verdict, Says}
 use Rattle.sp_analysis.specs.Found.{block_by, IsNumberedBy}
 use Rattle.sp_spec_text.specs.Numerals.{counted}
-use Rattle.sp_analysis.specs.Analysis.{Outcome, summary_by, trees_of, IsOutcome, AreOutcomes}
+use Rattle.sp_analysis.specs.Analysis.{Outcome, summary_by, trees_of, IsOutcome, AreOutcomes, IsAnalysis}
+use Rattle.sp_analysis.specs.Shown.{graphs_by, graphs, counts_by, all_steps, counts}
 use Rattle.sp_analysis.specs.Checking.{proof_read, IsVerdictIn, Judged, checked_by, IsJudged, AreJudged}
 use Rattle.sp_pose.specs.Asked.{Asked, asked_of, asked_with, lemmas_read}
-use Rattle.sp_analysis.specs.Printed.{Printed, printed_of, by_tree, by_judgement, judged_log, root_for, judged_so, to_print, taken_from, asked_run, all_to_print, AreNameable, line_of, lines, spliced, text_with, written_by}
+use Rattle.sp_analysis.specs.Printed.{Printed, printed_of, by_tree, by_judgement, judged_log, root_for, judged_so, Graphing, graphing, print_by, to_print, taken_from, asked_run, all_print_by, all_to_print, AreNameableBy, AreNameable, line_of, lines, spliced, text_with, verdicts_in, steps_in, graphs_in, counts_in, written_by}
 use Rattle.sp_analysis.specs.View.{verdict_of}
 use Rattle.sp_pose.specs.Posed.{IsPosedBy}
-use Rattle.sp_analysis.specs.Replies.{IsAnalysed, IsChecked, LacksLemma, IsDone, IsAnswered}
+use Rattle.sp_analysis.specs.Replies.{IsAnalysed, IsChecked, IsShown, LacksLemma, IsDone, IsAnswered}
 use Rattle.sp_analysis.proofs.Running.{rise_behind}
 use Rattle.sp_analysis.proofs.ReadRun.{read_run, forms_run, are_formed, listed_run, names_listed}
 use Rattle.sp_pose.specs.declared.problem.Problem.{Problem}
 use Rattle.sp_analysis.specs.declared.replies.Answered.{Answered}
 use Rattle.sp_analysis.specs.declared.replies.Command.{Command}
-use Rattle.sp_analysis.specs.declared.replies.Command.TheVariants.{Prove, Check}
+use Rattle.sp_analysis.specs.declared.replies.Command.TheVariants.{Prove, Check, Graph, Count}
 use Rattle.sp_analysis.specs.declared.tried.Tried.{Tried}
 use Rattle.sp_analysis.specs.declared.verdict.Verdict as memory
 
@@ -86,6 +87,8 @@ then_taken command setting taken l g = taken ++ taken_from (asked_with l g) (to_
 span_to_print : (command : Command) (setting : Setting) (taken : List Taken) (l : WrittenLemma) (g : Guarded) → (to_print command setting taken (asked_with l g)).span ≡ view.span_of l.span
 span_to_print (Prove budget) setting taken l g = refl
 span_to_print Check setting taken l g = refl
+span_to_print (Graph budget) setting taken l g = refl
+span_to_print (Count budget) setting taken l g = refl
 
 spans_to_print : (command : Command) (setting : Setting) (taken : List Taken) (ls : List WrittenLemma) (gs : List Guarded) → AreForms ls gs
     → printed_spans (all_to_print command setting taken (asked_list ls gs)) ≡ spans_of ls
@@ -99,10 +102,7 @@ tried_spans : (ts : List Tried) → printed_spans (map printed_of ts) ≡ map (�
 tried_spans [] = refl
 tried_spans (t ∷ ts) = ap (λ (ss : List Span). view.span_of t.span ∷ ss) (tried_spans ts)
 
-abbrev printed_verdicts : List Printed → List Verdict
-printed_verdicts ps = map (λ (p : Printed). p.verdict) ps
-
-tried_verdicts : (ts : List Tried) → printed_verdicts (map printed_of ts) ≡ map verdict_of (map (λ (t : Tried). t.verdict) ts)
+tried_verdicts : (ts : List Tried) → verdicts_in (map printed_of ts) ≡ map verdict_of (map (λ (t : Tried). t.verdict) ts)
 tried_verdicts [] = refl
 tried_verdicts (t ∷ ts) = ap (λ (vs : List Verdict). verdict_of t.verdict ∷ vs) (tried_verdicts ts)
 
@@ -238,10 +238,10 @@ outcomes_right setting budget taken (l ∷ ls) (g ∷ gs) h =
           (given_same l g h.0 (to_print (Prove budget) setting taken (asked_with l g))) (outcomes_right setting budget later ls gs h.1),
     )
 
-module _ (chosen : Option (List ℕ)) (setting : Setting) (budget : ℕ) (text : List ℕ) (end : ℕ) where
+module _ (graph : Graphing) (chosen : Option (List ℕ)) (setting : Setting) (budget : ℕ) (text : List ℕ) (end : ℕ) where
   -- what is to be printed from a place on, of lemmas that are run
   abbrev to_splice : List Taken → ℕ → List WrittenLemma → List Guarded → List ℕ
-  to_splice taken start run forms = spliced text start (all_to_print (Prove budget) setting taken (asked_list run forms)) end
+  to_splice taken start run forms = spliced text start (all_print_by (Some budget) graph setting taken (asked_list run forms)) end
 
   -- their trees
   abbrev trees_run : List Taken → List WrittenLemma → List Guarded → List Tree
@@ -269,32 +269,53 @@ module _ (chosen : Option (List ℕ)) (setting : Setting) (budget : ℕ) (text :
       one_spliced taken start l g ls (read_run chosen ls) (forms_run chosen ls gs) (is_run chosen l.name.now)
       (proofs_same (then_taken (Prove budget) setting taken l g) (goes_on text (view.span_of l.span)) ls gs h.1) (proofs_same taken start ls gs h.1)
 
-lines_same : (setting : Setting) (budget : ℕ) (taken : List Taken) (ls : List WrittenLemma) (gs : List Guarded)
-    → lines (all_to_print (Prove budget) setting taken (asked_list ls gs)) ≡ summary_by (executed setting) (given setting) (outcomes_of setting budget taken ls gs)
-lines_same setting budget taken [] gs = refl
-lines_same setting budget taken (l ∷ ls) [] = refl
-lines_same setting budget taken (l ∷ ls) (g ∷ gs) =
-    let p = to_print (Prove budget) setting taken (asked_with l g) in
-    ap (λ (rest : List ℕ). line_of p ++ (p.block ++ rest)) (lines_same setting budget (then_taken (Prove budget) setting taken l g) ls gs)
+lines_same : (graph : Graphing) (setting : Setting) (budget : ℕ) (taken : List Taken) (ls : List WrittenLemma) (gs : List Guarded)
+    → lines (all_print_by (Some budget) graph setting taken (asked_list ls gs)) ≡ summary_by (executed setting) (given setting) (outcomes_of setting budget taken ls gs)
+lines_same graph setting budget taken [] gs = refl
+lines_same graph setting budget taken (l ∷ ls) [] = refl
+lines_same graph setting budget taken (l ∷ ls) (g ∷ gs) =
+    let p = print_by (Some budget) graph setting taken (asked_with l g) in
+    ap (λ (rest : List ℕ). line_of p ++ (p.block ++ rest)) (lines_same graph setting budget (then_taken (Prove budget) setting taken l g) ls gs)
 
-verdicts_same : (setting : Setting) (budget : ℕ) (taken : List Taken) (ls : List WrittenLemma) (gs : List Guarded)
-    → printed_verdicts (all_to_print (Prove budget) setting taken (asked_list ls gs)) ≡ map (λ (o : Outcome). o.verdict) (outcomes_of setting budget taken ls gs)
-verdicts_same setting budget taken [] gs = refl
-verdicts_same setting budget taken (l ∷ ls) [] = refl
-verdicts_same setting budget taken (l ∷ ls) (g ∷ gs) =
-    ap (λ (vs : List Verdict). (outcome_of setting budget taken l g).verdict ∷ vs) (verdicts_same setting budget (then_taken (Prove budget) setting taken l g) ls gs)
+verdicts_same : (graph : Graphing) (setting : Setting) (budget : ℕ) (taken : List Taken) (ls : List WrittenLemma) (gs : List Guarded)
+    → verdicts_in (all_print_by (Some budget) graph setting taken (asked_list ls gs)) ≡ map (λ (o : Outcome). o.verdict) (outcomes_of setting budget taken ls gs)
+verdicts_same graph setting budget taken [] gs = refl
+verdicts_same graph setting budget taken (l ∷ ls) [] = refl
+verdicts_same graph setting budget taken (l ∷ ls) (g ∷ gs) =
+    ap (λ (vs : List Verdict). (outcome_of setting budget taken l g).verdict ∷ vs) (verdicts_same graph setting budget (then_taken (Prove budget) setting taken l g) ls gs)
 
-outcomes_placed : (setting : Setting) (budget : ℕ) (taken : List Taken) (ls : List WrittenLemma) (gs : List Guarded) → AreNameable (Prove budget) setting taken (asked_list ls gs)
+-- their graphs, and how many moves their proofs have
+graphs_same : (setting : Setting) (budget : ℕ) (taken : List Taken) (ls : List WrittenLemma) (gs : List Guarded)
+    → graphs_in (all_to_print (Graph budget) setting taken (asked_list ls gs)) ≡ graphs_by (given setting) (outcomes_of setting budget taken ls gs)
+graphs_same setting budget taken [] gs = refl
+graphs_same setting budget taken (l ∷ ls) [] = refl
+graphs_same setting budget taken (l ∷ ls) (g ∷ gs) =
+    ap (λ (rest : List ℕ). (to_print (Graph budget) setting taken (asked_with l g)).graph ++ rest) (graphs_same setting budget (then_taken (Graph budget) setting taken l g) ls gs)
+
+-- a count of counted numbers is that of the numbers
+counted_more : (n m k : ℕ) → counted m ≡ counted k → counted (counted n + m) ≡ counted (n + k)
+counted_more n m k e = omega (arith, e)
+
+steps_same : (graph : Graphing) (setting : Setting) (budget : ℕ) (taken : List Taken) (ls : List WrittenLemma) (gs : List Guarded)
+    → counted (steps_in (all_print_by (Some budget) graph setting taken (asked_list ls gs))) ≡ counted (all_steps (outcomes_of setting budget taken ls gs))
+steps_same graph setting budget taken [] gs = refl
+steps_same graph setting budget taken (l ∷ ls) [] = refl
+steps_same graph setting budget taken (l ∷ ls) (g ∷ gs) =
+    let later = then_taken (Prove budget) setting taken l g in
+    counted_more (steps (proof_tree setting budget (root_in setting taken l g))) (steps_in (all_print_by (Some budget) graph setting later (asked_list ls gs)))
+    (all_steps (outcomes_of setting budget later ls gs)) (steps_same graph setting budget later ls gs)
+
+outcomes_placed : (graph : Graphing) (setting : Setting) (budget : ℕ) (taken : List Taken) (ls : List WrittenLemma) (gs : List Guarded) → AreNameableBy (Some budget) graph setting taken (asked_list ls gs)
     → Every (λ (o : Outcome). HavePlaces o.tree) (outcomes_of setting budget taken ls gs)
-outcomes_placed setting budget taken [] gs h = tt
-outcomes_placed setting budget taken (l ∷ ls) [] h = tt
-outcomes_placed setting budget taken (l ∷ ls) (g ∷ gs) h = (h.0.0, outcomes_placed setting budget (then_taken (Prove budget) setting taken l g) ls gs h.1)
+outcomes_placed graph setting budget taken [] gs h = tt
+outcomes_placed graph setting budget taken (l ∷ ls) [] h = tt
+outcomes_placed graph setting budget taken (l ∷ ls) (g ∷ gs) h = (h.0.0, outcomes_placed graph setting budget (then_taken (Prove budget) setting taken l g) ls gs h.1)
 
-outcomes_numbered : (setting : Setting) (budget : ℕ) (taken : List Taken) (ls : List WrittenLemma) (gs : List Guarded)
-    → AreNameable (Prove budget) setting taken (asked_list ls gs) → Every (λ (o : Outcome). IsNumberedBy (executed setting) (given setting) (names_learning o.lemma.formula) o.log) (outcomes_of setting budget taken ls gs)
-outcomes_numbered setting budget taken [] gs h = tt
-outcomes_numbered setting budget taken (l ∷ ls) [] h = tt
-outcomes_numbered setting budget taken (l ∷ ls) (g ∷ gs) h = (h.0.1, outcomes_numbered setting budget (then_taken (Prove budget) setting taken l g) ls gs h.1)
+outcomes_numbered : (graph : Graphing) (setting : Setting) (budget : ℕ) (taken : List Taken) (ls : List WrittenLemma) (gs : List Guarded)
+    → AreNameableBy (Some budget) graph setting taken (asked_list ls gs) → Every (λ (o : Outcome). IsNumberedBy (executed setting) (given setting) (names_learning o.lemma.formula) o.log) (outcomes_of setting budget taken ls gs)
+outcomes_numbered graph setting budget taken [] gs h = tt
+outcomes_numbered graph setting budget taken (l ∷ ls) [] h = tt
+outcomes_numbered graph setting budget taken (l ∷ ls) (g ∷ gs) h = (h.0.1, outcomes_numbered graph setting budget (then_taken (Prove budget) setting taken l g) ls gs h.1)
 
 -- ---- lemmas whose proofs are checked
 
@@ -373,7 +394,7 @@ judged_numbered setting taken (l ∷ ls) [] h = tt
 judged_numbered setting taken (l ∷ ls) (g ∷ gs) h = (h.0, judged_numbered setting (then_taken Check setting taken l g) ls gs h.1)
 
 judged_verdicts : (setting : Setting) (taken : List Taken) (ls : List WrittenLemma) (gs : List Guarded)
-    → printed_verdicts (all_to_print Check setting taken (asked_list ls gs)) ≡ map (λ (j : Judged). j.verdict) (all_judged setting taken ls gs)
+    → verdicts_in (all_to_print Check setting taken (asked_list ls gs)) ≡ map (λ (j : Judged). j.verdict) (all_judged setting taken ls gs)
 judged_verdicts setting taken [] gs = refl
 judged_verdicts setting taken (l ∷ ls) [] = refl
 judged_verdicts setting taken (l ∷ ls) (g ∷ gs) =
@@ -381,8 +402,8 @@ judged_verdicts setting taken (l ∷ ls) (g ∷ gs) =
 
 -- ---- what has been written is what is to be written
 
-abbrev verdicts_in : List Tried → List memory.Verdict
-verdicts_in ts = map (λ (t : Tried). t.verdict) ts
+abbrev verdicts_of : List Tried → List memory.Verdict
+verdicts_of ts = map (λ (t : Tried). t.verdict) ts
 
 -- what the proofs of a problem have in common
 abbrev setting_made : Signature → List Rule → List (List ℕ) → List Guarded → Setting
@@ -410,58 +431,95 @@ module _ {text : List ℕ} (chosen : Option (List ℕ)) (p : Problem) (ts : List
   abbrev asked : List Asked
   asked = asked_run chosen (map asked_of p.lemmas.items)
 
-  analysed : (budget : ℕ) → map printed_of ts ≡ all_to_print (Prove budget) (setting_for p) [] asked → AreNameable (Prove budget) (setting_for p) [] asked
-      → written ≡ written_by (Prove budget) text (map printed_of ts) p.behind_end → verdicts ≡ verdicts_in ts → IsAnalysed budget chosen text written (map verdict_of verdicts)
-  analysed budget prints nameable written_is verdicts_are =
-      let xs = posed.theory.items.items in
-      let ls = lemmas_read xs in
-      let qs = stated_in (resolved posed.said).items in
-      let setting = setting_for p in
-      let same = setting_is p posed in
-      let h = has_forms ls (map asked_of p.lemmas.items) posed.lemmas_are in
-      let run = read_run chosen ls in
-      let forms = forms_run chosen ls h.forms in
-      let os = outcomes_of setting budget [] run forms in
-      let again = asked_again chosen ls (map asked_of p.lemmas.items) h in
-      let all : map printed_of ts ≡ all_to_print (Prove budget) setting [] (asked_list run forms) = prints ∙ ap (all_to_print (Prove budget) setting []) again in
-      let named = subst (λ (as' : List Asked). AreNameable (Prove budget) setting [] as') again nameable in
-      let text_of : List ℕ → List ℕ → List ℕ = λ body words. body ++ (codes "\n/*\n" ++ (words ++ codes "*/\n")) in
-      let right : AreOutcomes setting budget [] (run_among chosen qs) os =
-      subst (λ (rs : List Stated). AreOutcomes setting budget [] rs os) (sym (run_said chosen p posed)) (outcomes_right setting budget [] run forms (are_formed chosen ls h.forms h.are)) in
-      record {
-        outcomes = os;
-        analysis = record {
+  abbrev all_read : List WrittenLemma
+  all_read = lemmas_read posed.theory.items.items
+
+  abbrev has_read : HasForms all_read (map asked_of p.lemmas.items)
+  has_read = has_forms all_read (map asked_of p.lemmas.items) posed.lemmas_are
+
+  -- those that are run
+  abbrev run : List WrittenLemma
+  run = read_run chosen all_read
+
+  abbrev forms : List Guarded
+  forms = forms_run chosen all_read has_read.forms
+
+  again : asked ≡ asked_list run forms
+  again = asked_again chosen all_read (map asked_of p.lemmas.items) has_read
+
+  -- by a command that grows proofs
+  module _ (graph : Graphing) (budget : ℕ) (prints : map printed_of ts ≡ all_print_by (Some budget) graph (setting_for p) [] asked)
+      (nameable : AreNameableBy (Some budget) graph (setting_for p) [] asked) (verdicts_are : verdicts ≡ verdicts_of ts) where
+    abbrev outcomes : List Outcome
+    outcomes = outcomes_of (setting_for p) budget [] run forms
+
+    all_grown : map printed_of ts ≡ all_print_by (Some budget) graph (setting_for p) [] (asked_list run forms)
+    all_grown = prints ∙ ap (all_print_by (Some budget) graph (setting_for p) []) again
+
+    said_of_them : map verdict_of verdicts ≡ map (λ (o : Outcome). o.verdict) outcomes
+    said_of_them = ap (map verdict_of) verdicts_are ∙ sym (tried_verdicts ts) ∙ ap verdicts_in all_grown ∙ verdicts_same graph (setting_for p) budget [] run forms
+
+    abbrev analysis_of : (w : List ℕ) → w ≡ text_with text (map printed_of ts) p.behind_end → IsAnalysis budget chosen text w outcomes
+    analysis_of w written_is =
+        let xs = posed.theory.items.items in
+        let qs = stated_in (resolved posed.said).items in
+        let setting = setting_for p in
+        let same = setting_is p posed in
+        let named = subst (λ (as' : List Asked). AreNameableBy (Some budget) graph setting [] as') again nameable in
+        let text_of : List ℕ → List ℕ → List ℕ = λ body words. body ++ (codes "\n/*\n" ++ (words ++ codes "*/\n")) in
+        let right : AreOutcomes setting budget [] (run_among chosen qs) outcomes =
+        subst (λ (rs : List Stated). AreOutcomes setting budget [] rs outcomes) (sym (run_said chosen p posed))
+        (outcomes_right setting budget [] run forms (are_formed chosen all_read has_read.forms has_read.are)) in
+        record {
           theory = posed.said;
           poses = posed.poses;
           has = sym (has_same chosen p posed) ∙ has;
-          outcomes_are = subst (λ (x : Setting). AreOutcomes x budget [] (run_among chosen qs) os) same right;
-          places = outcomes_placed setting budget [] run forms named;
-          numbers = subst (λ (x : Setting). Every (λ (o : Outcome). IsNumberedBy (executed x) (given x) (names_learning o.lemma.formula) o.log) os) same (outcomes_numbered setting budget [] run forms named);
+          outcomes_are = subst (λ (x : Setting). AreOutcomes x budget [] (run_among chosen qs) outcomes) same right;
+          places = outcomes_placed graph setting budget [] run forms named;
+          numbers = subst (λ (x : Setting). Every (λ (o : Outcome). IsNumberedBy (executed x) (given x) (names_learning o.lemma.formula) o.log) outcomes) same
+              (outcomes_numbered graph setting budget [] run forms named);
           spans = view.spans xs;
           behind_end = p.behind_end;
           places_are = posed.places_are;
-          written_is = written_is ∙ ap (λ (ps : List Printed). text_with text ps p.behind_end) all
+          written_is = written_is ∙ ap (λ (ps : List Printed). text_with text ps p.behind_end) all_grown
               ∙ ap₂ text_of
-              (proofs_same chosen setting budget text p.behind_end [] 0 ls h.forms h.are
-              ∙ ap₂ (λ (ss : List Span) (rs : List Stated). replaced text 0 ss (placed chosen rs (trees_of os)) p.behind_end) (sym (spans_read xs)) (sym (stated_said p posed)))
-              (lines_same setting budget [] run forms ∙ ap (λ (x : Setting). summary_by (executed x) (given x) os) same);
-        };
-        verdicts_are = ap (map verdict_of) verdicts_are ∙ sym (tried_verdicts ts) ∙ ap printed_verdicts all ∙ verdicts_same setting budget [] run forms;
-      }
+              (proofs_same graph chosen setting budget text p.behind_end [] 0 all_read has_read.forms has_read.are
+              ∙ ap₂ (λ (ss : List Span) (rs : List Stated). replaced text 0 ss (placed chosen rs (trees_of outcomes)) p.behind_end) (sym (spans_read xs)) (sym (stated_said p posed)))
+              (lines_same graph setting budget [] run forms ∙ ap (λ (x : Setting). summary_by (executed x) (given x) outcomes) same);
+        }
+
+    analysed : written ≡ text_with text (map printed_of ts) p.behind_end → IsAnalysed budget chosen text written (map verdict_of verdicts)
+    analysed written_is = record { outcomes = outcomes; analysis = analysis_of written written_is; verdicts_are = said_of_them }
+
+    -- in the place of the text
+    shown_by : (shows : Theory → List Outcome → List ℕ) → written ≡ shows (theory_of (theory_in posed.said)) outcomes → IsShown shows budget chosen text written (map verdict_of verdicts)
+    shown_by shows written_is = record {
+      outcomes = outcomes;
+      analysed = text_with text (map printed_of ts) p.behind_end;
+      analysis = analysis_of (text_with text (map printed_of ts) p.behind_end) refl;
+      written_is = written_is;
+      verdicts_are = said_of_them;
+    }
+
+    counted_so : written ≡ counts_in (map printed_of ts) → IsShown (λ theory. counts) budget chosen text written (map verdict_of verdicts)
+    counted_so written_is = shown_by (λ theory. counts)
+        (written_is ∙ ap counts_in all_grown ∙ ap₂ counts_by (verdicts_same graph (setting_for p) budget [] run forms) (steps_same graph (setting_for p) budget [] run forms))
+
+  drawn : (budget : ℕ) → map printed_of ts ≡ all_to_print (Graph budget) (setting_for p) [] asked → AreNameable (Graph budget) (setting_for p) [] asked
+      → written ≡ graphs_in (map printed_of ts) → verdicts ≡ verdicts_of ts → IsShown graphs budget chosen text written (map verdict_of verdicts)
+  drawn budget prints nameable written_is verdicts_are =
+      shown_by (graphing (Graph budget)) budget prints nameable verdicts_are graphs
+      (written_is ∙ ap graphs_in (all_grown (graphing (Graph budget)) budget prints nameable verdicts_are) ∙ graphs_same (setting_for p) budget [] run forms
+      ∙ ap (λ (x : Setting). graphs_by (given x) (outcomes_of (setting_for p) budget [] run forms)) (setting_is p posed))
 
   checked : map printed_of ts ≡ all_to_print Check (setting_for p) [] asked → AreNameable Check (setting_for p) [] asked
-      → written ≡ written_by Check text (map printed_of ts) p.behind_end → verdicts ≡ verdicts_in ts
+      → written ≡ written_by Check text (map printed_of ts) p.behind_end → verdicts ≡ verdicts_of ts
       → IsChecked chosen text written (map verdict_of verdicts)
   checked prints nameable written_is verdicts_are =
-      let ls = lemmas_read posed.theory.items.items in
       let qs = stated_in (resolved posed.said).items in
       let setting = setting_for p in
       let same = setting_is p posed in
-      let h = has_forms ls (map asked_of p.lemmas.items) posed.lemmas_are in
-      let run = read_run chosen ls in
-      let forms = forms_run chosen ls h.forms in
       let js = all_judged setting [] run forms in
-      let again = asked_again chosen ls (map asked_of p.lemmas.items) h in
       let all : map printed_of ts ≡ all_to_print Check setting [] (asked_list run forms) = prints ∙ ap (all_to_print Check setting []) again in
       let named = subst (λ (as' : List Asked). AreNameable Check setting [] as') again nameable in
       record {
@@ -471,25 +529,27 @@ module _ {text : List ℕ} (chosen : Option (List ℕ)) (p : Problem) (ts : List
           poses = posed.poses;
           has = sym (has_same chosen p posed) ∙ has;
           judged_are = subst (λ (x : Setting). AreJudged x [] (run_among chosen qs) js) same
-              (subst (λ (rs : List Stated). AreJudged setting [] rs js) (sym (run_said chosen p posed)) (all_judged_right setting [] run forms (are_formed chosen ls h.forms h.are)));
+              (subst (λ (rs : List Stated). AreJudged setting [] rs js) (sym (run_said chosen p posed)) (all_judged_right setting [] run forms (are_formed chosen all_read has_read.forms has_read.are)));
           numbers = subst (λ (x : Setting). Every (λ (j : Judged). IsNumberedBy (executed x) (given x) (names_learning j.lemma.formula) j.log) js) same (judged_numbered setting [] run forms named);
           written_is = written_is ∙ ap lines all ∙ checked_same setting [] run forms ∙ ap (λ (x : Setting). checked_by (executed x) (given x) js) same;
         };
-        verdicts_are = ap (map verdict_of) verdicts_are ∙ sym (tried_verdicts ts) ∙ ap printed_verdicts all ∙ judged_verdicts setting [] run forms;
+        verdicts_are = ap (map verdict_of) verdicts_are ∙ sym (tried_verdicts ts) ∙ ap verdicts_in all ∙ judged_verdicts setting [] run forms;
       }
 
   is_done : (command : Command) → map printed_of ts ≡ all_to_print command (setting_for p) [] asked
-      → AreNameable command (setting_for p) [] asked → written ≡ written_by command text (map printed_of ts) p.behind_end → verdicts ≡ verdicts_in ts
+      → AreNameable command (setting_for p) [] asked → written ≡ written_by command text (map printed_of ts) p.behind_end → verdicts ≡ verdicts_of ts
       → IsDone command chosen text written (map verdict_of verdicts)
-  is_done (Prove budget) prints nameable written_is verdicts_are = analysed budget prints nameable written_is verdicts_are
+  is_done (Prove budget) prints nameable written_is verdicts_are = analysed (graphing (Prove budget)) budget prints nameable verdicts_are written_is
   is_done Check prints nameable written_is verdicts_are = checked prints nameable written_is verdicts_are
+  is_done (Graph budget) prints nameable written_is verdicts_are = drawn budget prints nameable written_is verdicts_are
+  is_done (Count budget) prints nameable written_is verdicts_are = counted_so (graphing (Count budget)) budget prints nameable verdicts_are written_is
 
 -- so of what was answered
 pub is_answered : {text : List ℕ} {E : Type 0} (chosen : Option (List ℕ)) (p : Problem) (ts : List Tried) (r : Result Answered E) → IsPosedBy text p
     → is_among chosen (map (λ (a : Asked). a.name) (map asked_of p.lemmas.items)) ≡ true → (command : Command)
     → map printed_of ts ≡ all_to_print command (setting_for p) [] (asked_run chosen (map asked_of p.lemmas.items))
     → AreNameable command (setting_for p) [] (asked_run chosen (map asked_of p.lemmas.items))
-    → IfOk r (λ a. a.written.items ≡ written_by command text (map printed_of ts) p.behind_end) → IfOk r (λ a. a.verdicts.items ≡ verdicts_in ts) → IfOk r (IsAnswered command chosen text)
+    → IfOk r (λ a. a.written.items ≡ written_by command text (map printed_of ts) p.behind_end) → IfOk r (λ a. a.verdicts.items ≡ verdicts_of ts) → IfOk r (IsAnswered command chosen text)
 is_answered chosen p ts (Ok a) posed has command prints nameable written_is verdicts_are =
     is_done chosen p ts a.written.items a.verdicts.items posed has command prints nameable written_is verdicts_are
 is_answered chosen p ts (Err e) posed has command prints nameable written_is verdicts_are = tt
@@ -501,32 +561,35 @@ lacks_lemma chosen p posed none = record { theory = posed.said; poses = posed.po
 
 -- ---- what is printed of a tree that was grown
 
-abbrev pub made : List ℕ → TraceKind → Bool → Span → Verdict → ℕ → List ℕ → List ℕ → Printed
-made name kind marked span v n proof block = record { name = name; kind = kind; marked = marked; verdict = v; steps = n; span = span; proof = proof; block = block }
+abbrev pub made : List ℕ → TraceKind → Bool → Span → Verdict → ℕ → List ℕ → List ℕ → List ℕ → Printed
+made name kind marked span v n proof block graph = record { name = name; kind = kind; marked = marked; verdict = v; steps = n; span = span; proof = proof; block = block; graph = graph }
 
--- the tree, its log and its text are those of the lemma
+-- the tree and its log are those of the lemma
 pub record IsGrown (setting : Setting) (budget : ℕ) (taken : List Taken) (a : Asked) (tree : Tree) (log : Option Log) : Type 0 where
   pub tree_is : tree ≡ proof_tree setting budget (root_for setting taken a)
   pub log_is : log ≡ grown_log setting budget (root_for setting taken a)
 
-pub grown_printed : (setting : Setting) (budget : ℕ) (taken : List Taken) (a : Asked) (tree : Tree) (log : Option Log) → IsGrown setting budget taken a tree log
-    → (v : Verdict) (n : ℕ) (proof block : List ℕ)
+pub grown_printed : (graph : Graphing) (setting : Setting) (budget : ℕ) (taken : List Taken) (a : Asked) (tree : Tree) (log : Option Log) → IsGrown setting budget taken a tree log
+    → (v : Verdict) (n : ℕ) (proof block drawn : List ℕ)
     → v ≡ by_tree a.kind log (finished tree) → n ≡ counted (steps tree) → proof ≡ tree_text 0 tree → block ≡ block_by (executed setting) (given setting) a.marked log
-    → made a.name a.kind a.marked a.span v n proof block ≡ to_print (Prove budget) setting taken a
-grown_printed setting budget taken a tree log is v n proof block verdict_is steps_is proof_is block_is =
+    → drawn ≡ graph (given setting) a.name log → made a.name a.kind a.marked a.span v n proof block drawn ≡ print_by (Some budget) graph setting taken a
+grown_printed graph setting budget taken a tree log is v n proof block drawn verdict_is steps_is proof_is block_is drawn_is =
     let root = root_for setting taken a in
     let t = proof_tree setting budget root in
-    ap₂ (λ (w : Verdict) (m : ℕ). made a.name a.kind a.marked a.span w m proof block)
+    let found = grown_log setting budget root in
+    let with_verdict = made a.name a.kind a.marked a.span (by_tree a.kind found (finished t)) (counted (steps t)) in
+    ap₂ (λ (w : Verdict) (m : ℕ). made a.name a.kind a.marked a.span w m proof block drawn)
     (verdict_is ∙ ap₂ (λ (l : Option Log) (u : Tree). by_tree a.kind l (finished u)) is.log_is is.tree_is) (steps_is ∙ ap (λ (u : Tree). counted (steps u)) is.tree_is)
-    ∙ ap₂ (made a.name a.kind a.marked a.span (by_tree a.kind (grown_log setting budget root) (finished t)) (counted (steps t)))
-    (proof_is ∙ ap (tree_text 0) is.tree_is) (block_is ∙ ap (block_by (executed setting) (given setting) a.marked) is.log_is)
+    ∙ ap₂ (λ (q b : List ℕ). with_verdict q b drawn) (proof_is ∙ ap (tree_text 0) is.tree_is) (block_is ∙ ap (block_by (executed setting) (given setting) a.marked) is.log_is)
+    ∙ ap (with_verdict (tree_text 0 t) (block_by (executed setting) (given setting) a.marked found)) (drawn_is ∙ ap (graph (given setting) a.name) is.log_is)
 
 -- ---- what is printed of a proof that was read
 
 pub judged_printed : (setting : Setting) (taken : List Taken) (a : Asked) (j : Judgement) → j ≡ judged_so setting (root_for setting taken a) a.proof
-    → (v : Verdict) (n : ℕ) (proof block : List ℕ) → v ≡ by_judgement a.kind j → n ≡ counted (read.steps (proof_read a.proof)) → proof ≡ [] → block ≡ block_by (executed setting) (given setting) a.marked (judged_log j)
-    → made a.name a.kind a.marked a.span v n proof block ≡ to_print Check setting taken a
-judged_printed setting taken a j j_is v n proof block v_is n_is proof_is block_is =
-    ap₂ (λ (w : Verdict) (m : ℕ). made a.name a.kind a.marked a.span w m proof block) (v_is ∙ ap (by_judgement a.kind) j_is) n_is
-    ∙ ap₂ (made a.name a.kind a.marked a.span (by_judgement a.kind (judged_so setting (root_for setting taken a) a.proof)) (counted (read.steps (proof_read a.proof)))) proof_is
-    (block_is ∙ ap (λ (x : Judgement). block_by (executed setting) (given setting) a.marked (judged_log x)) j_is)
+    → (v : Verdict) (n : ℕ) (proof block drawn : List ℕ) → v ≡ by_judgement a.kind j → n ≡ counted (read.steps (proof_read a.proof)) → proof ≡ []
+    → block ≡ block_by (executed setting) (given setting) a.marked (judged_log j) → drawn ≡ [] → made a.name a.kind a.marked a.span v n proof block drawn ≡ to_print Check setting taken a
+judged_printed setting taken a j j_is v n proof block drawn v_is n_is proof_is block_is drawn_is =
+    let with_verdict = made a.name a.kind a.marked a.span (by_judgement a.kind (judged_so setting (root_for setting taken a) a.proof)) (counted (read.steps (proof_read a.proof))) in
+    ap₂ (λ (w : Verdict) (m : ℕ). made a.name a.kind a.marked a.span w m proof block drawn) (v_is ∙ ap (by_judgement a.kind) j_is) n_is
+    ∙ ap₂ (λ (q b : List ℕ). with_verdict q b drawn) proof_is (block_is ∙ ap (λ (x : Judgement). block_by (executed setting) (given setting) a.marked (judged_log x)) j_is)
+    ∙ ap (with_verdict [] (block_by (executed setting) (given setting) a.marked (judged_log (judged_so setting (root_for setting taken a) a.proof)))) drawn_is

@@ -1,5 +1,5 @@
 -- Lemmas that were read, of which some are run.
-use Rattle.std.proofs.Common.{◌≡◌, ℕ, Bool, true, false, if◌then◌else◌, List, [], ◌∷◌, ◌++◌, map, Option, Some, None, refl, sym, ap, ◌∙◌, append_assoc, append-nil}
+use Rattle.std.proofs.Common.{◌≡◌, ℕ, Bool, true, false, if◌then◌else◌, List, [], ◌∷◌, ◌++◌, map, Option, Some, refl, sym, ap, ◌∙◌, append_assoc, append-nil}
 use Rattle.sp_spec.specs.Guarded.{Guarded}
 use Rattle.sp_law_guard.specs.CheckedForm.{checked_form}
 use Rattle.sp_read_parts.specs.Formulas.{formula}

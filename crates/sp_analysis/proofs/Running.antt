@@ -1,7 +1,6 @@
 -- Lemmas of which some are run.
-use Rattle.std.proofs.Common.{◌≡◌, ◌≤◌, ℕ, suc, Bool, true, false, if◌then◌else◌, List, [], ◌∷◌, ◌++◌, length, map, Option, Some, None, refl, sym, ap, ◌∙◌, arith}
+use Rattle.std.proofs.Common.{◌≡◌, ◌≤◌, ℕ, suc, Bool, true, false, if◌then◌else◌, List, [], ◌∷◌, length, map, Option, Some, None, refl, ap, arith}
 use Rattle.sp_spec.specs.Lists.{Every}
-use Rattle.sp_spec.specs.Guarded.{Guarded}
 use Rattle.sp_spec.specs.Theory.{Lemma}
 use Rattle.sp_spec_proof.specs.Tree.{Tree}
 use Rattle.sp_spec_text.specs.Spans.{Span, Rise, goes_on}

@@ -1,5 +1,5 @@
 -- Which lemmas are run: each, or the one alone whose name is given. Source: Tamarin manual, "Running Tamarin" (`--prove=NAME`).
-use Rattle.std.specs.Prelude.{ℕ, Bool, true, false, if◌then◌else◌, List, [], ◌∷◌, map, Option, Some, None, bytes_eq}
+use Rattle.std.specs.Prelude.{ℕ, Bool, true, if◌then◌else◌, List, [], ◌∷◌, map, Option, Some, None, bytes_eq}
 use Rattle.std.specs.List.{list_any}
 use Rattle.sp_spec_proof.specs.Tree.{Tree}
 use Rattle.sp_analysis.specs.Taken.{Stated}

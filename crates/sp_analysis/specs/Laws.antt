@@ -28,7 +28,7 @@ use Rattle.sp_spec_system.specs.Move.{root_system}
 use Rattle.sp_analysis.specs.Sought.{setting_of, context_of}
 use Rattle.sp_analysis.specs.Analysis.{Outcome, summary, trees_of, IsAnalysis}
 use Rattle.sp_analysis.specs.Checking.{Judged, IsChecking}
-use Rattle.sp_analysis.specs.Replies.{LacksLemma}
+use Rattle.sp_analysis.specs.Replies.{IsShown, LacksLemma}
 
 -- Of executions that meet the restrictions. Of a lemma on all traces: verified, every execution satisfies it; falsified, the log that was found stands for
 -- one that breaks it. Of one on some trace: verified, the log that was found stands for an execution that satisfies it; falsified, no execution does. A
@@ -66,16 +66,24 @@ pub record AnswersAreOne : Type 0 where
       → IsAnalysis budget chosen text other others → (written ≡ other) × (outcomes ≡ others)
   pub one_check : (chosen : Option (List ℕ)) (text written other : List ℕ) (judged others : List Judged) → IsChecking chosen text written judged → IsChecking chosen text other others
       → (written ≡ other) × (judged ≡ others)
+  pub one_shown : (shows : Theory → List Outcome → List ℕ) (budget : ℕ) (chosen : Option (List ℕ)) (text written other : List ℕ) (verdicts others : List Verdict)
+      → IsShown shows budget chosen text written verdicts → IsShown shows budget chosen text other others → (written ≡ other) × (verdicts ≡ others)
   pub one_report : (text lines other : List ℕ) → IsReported text lines → IsReported text other → lines ≡ other
   pub refused : (text lines : List ℕ) (place : ℕ) → IsRefusedAt text place → IsReported text lines → ⊥
   pub no_analysis : (budget : ℕ) (chosen : Option (List ℕ)) (text written : List ℕ) (place : ℕ) (outcomes : List Outcome) → IsRefusedAt text place → IsAnalysis budget chosen text written outcomes → ⊥
   pub no_checking : (chosen : Option (List ℕ)) (text written : List ℕ) (place : ℕ) (judged : List Judged) → IsRefusedAt text place → IsChecking chosen text written judged → ⊥
+  pub no_showing : (shows : Theory → List Outcome → List ℕ) (budget : ℕ) (chosen : Option (List ℕ)) (text written : List ℕ) (place : ℕ) (verdicts : List Verdict) → IsRefusedAt text place
+      → IsShown shows budget chosen text written verdicts → ⊥
   pub not_analysed : (budget : ℕ) (chosen : Option (List ℕ)) (text lines written : List ℕ) (outcomes : List Outcome) → IsReported text lines → IsAnalysis budget chosen text written outcomes → ⊥
   pub not_checked : (chosen : Option (List ℕ)) (text lines written : List ℕ) (judged : List Judged) → IsReported text lines → IsChecking chosen text written judged → ⊥
+  pub not_shown : (shows : Theory → List Outcome → List ℕ) (budget : ℕ) (chosen : Option (List ℕ)) (text lines written : List ℕ) (verdicts : List Verdict) → IsReported text lines
+      → IsShown shows budget chosen text written verdicts → ⊥
   pub refused_or_lacking : (chosen : Option (List ℕ)) (text : List ℕ) (place : ℕ) → IsRefusedAt text place → LacksLemma chosen text → ⊥
   pub reported_or_lacking : (chosen : Option (List ℕ)) (text lines : List ℕ) → IsReported text lines → LacksLemma chosen text → ⊥
   pub analysed_or_lacking : (budget : ℕ) (chosen : Option (List ℕ)) (text written : List ℕ) (outcomes : List Outcome) → IsAnalysis budget chosen text written outcomes → LacksLemma chosen text → ⊥
   pub checked_or_lacking : (chosen : Option (List ℕ)) (text written : List ℕ) (judged : List Judged) → IsChecking chosen text written judged → LacksLemma chosen text → ⊥
+  pub shown_or_lacking : (shows : Theory → List Outcome → List ℕ) (budget : ℕ) (chosen : Option (List ℕ)) (text written : List ℕ) (verdicts : List Verdict)
+      → IsShown shows budget chosen text written verdicts → LacksLemma chosen text → ⊥
 
 -- Behind the word `end` of what was written stands the summary.
 abbrev pub StandsBehind : WrittenText → List ℕ → List Outcome → Type 0

@@ -8,3 +8,4 @@ pub mod Replies
 pub mod Laws
 pub mod Printed
 pub mod Found
+pub mod Shown

@@ -1,5 +1,5 @@
 -- What is to be printed of a lemma that is tried or whose proof is checked, and the text that is made of that.
-use Rattle.std.specs.Prelude.{ℕ, Bool, true, false, if◌then◌else◌, List, [], ◌∷◌, ◌++◌, codes, Option, Some, None, string_bytes}
+use Rattle.std.specs.Prelude.{ℕ, ◌+◌, Bool, true, false, if◌then◌else◌, List, [], ◌∷◌, ◌++◌, map, codes, Option, Some, None, string_bytes}
 use Rattle.sp_spec.specs.Log.{Log}
 use Rattle.sp_spec.specs.Theory.{TraceKind, all_traces, exists_trace}
 use Rattle.sp_spec_proof.specs.Tree.{steps}
@@ -19,13 +19,15 @@ use Rattle.sp_analysis.specs.Chosen.{is_run}
 use Rattle.sp_analysis.specs.Sought.{root_of, Setting, executed, given, context_of, proof_tree, grown_log}
 use Rattle.sp_spec_printed.specs.Verdict.{Verdict, verified, falsified, incomplete, rejected, summary_line}
 use Rattle.sp_analysis.specs.Found.{block_by, IsNumberedBy}
+use Rattle.sp_spec_log_lines.specs.Line.{Giving}
+use Rattle.sp_analysis.specs.Shown.{graph_or_none, counts_by}
 use Rattle.sp_law_reread.specs.Again.{between}
 use Rattle.sp_spec_text.specs.Numerals.{counted}
 use Rattle.sp_analysis.specs.Checking.{proof_read}
 use Rattle.sp_analysis.specs.View.{verdict_of}
 use Rattle.sp_analysis.specs.declared.tried.Tried.{Tried}
 use Rattle.sp_analysis.specs.declared.replies.Command.{Command}
-use Rattle.sp_analysis.specs.declared.replies.Command.TheVariants.{Prove, Check}
+use Rattle.sp_analysis.specs.declared.replies.Command.TheVariants.{Prove, Check, Graph, Count}
 
 -- those of the lemmas that are run
 abbrev pub run_if : Option (List ℕ) → Asked → List Asked
@@ -35,7 +37,7 @@ abbrev pub asked_run : Option (List ℕ) → List Asked → List Asked
 asked_run chosen [] = []
 asked_run chosen (a ∷ rest) = run_if chosen a ++ asked_run chosen rest
 
--- what is printed of a lemma: its line, the text of the proof that was grown for it, and the block of the execution that was found
+-- what is printed of a lemma: its line, the text of the proof that was grown for it, the block of the execution that was found, and the graph of the log
 pub record Printed : Type 0 where
   pub name : List ℕ
   pub kind : TraceKind
@@ -45,9 +47,10 @@ pub record Printed : Type 0 where
   pub span : Span
   pub proof : List ℕ
   pub block : List ℕ
+  pub graph : List ℕ
 
 abbrev pub printed_of : Tried → Printed
-printed_of t = record { name = t.name.now; kind = view.kind t.kind; marked = t.marked; verdict = verdict_of t.verdict; steps = t.steps; span = view.span_of t.span; proof = string_bytes t.proof; block = string_bytes t.block }
+printed_of t = record { name = t.name.now; kind = view.kind t.kind; marked = t.marked; verdict = verdict_of t.verdict; steps = t.steps; span = view.span_of t.span; proof = string_bytes t.proof; block = string_bytes t.block; graph = string_bytes t.graph }
 
 -- what a finished proof says
 abbrev pub shown : TraceKind → Verdict
@@ -89,9 +92,27 @@ root_for setting taken a = root_of setting a.attributes taken a.kind a.form
 abbrev pub judged_so : Setting → Root → Option WrittenProof → Judgement
 judged_so setting root proof = judgement (context_of setting root) (root_system root) (proof_read proof)
 
+-- of how many moves a proof is grown by the command, if one is
+abbrev pub growth : Command → Option ℕ
+growth (Prove budget) = Some budget
+growth Check = None
+growth (Graph budget) = Some budget
+growth (Count budget) = Some budget
+
+-- what is made of a log for a picture, by the lemma's name
+abbrev pub Graphing : Type 0
+Graphing = Giving → List ℕ → Option Log → List ℕ
+
+-- and by the command
+abbrev pub graphing : Command → Giving → List ℕ → Option Log → List ℕ
+graphing (Prove budget) given name log = []
+graphing Check given name log = []
+graphing (Graph budget) given name log = graph_or_none given name log
+graphing (Count budget) given name log = []
+
 -- what is to be printed of a lemma that is tried, and of one whose proof is checked
-abbrev pub to_print : Command → Setting → List Taken → Asked → Printed
-to_print (Prove budget) setting taken a = record {
+abbrev pub print_by : Option ℕ → Graphing → Setting → List Taken → Asked → Printed
+print_by (Some budget) graph setting taken a = record {
   name = a.name;
   kind = a.kind;
   marked = a.marked;
@@ -100,8 +121,9 @@ to_print (Prove budget) setting taken a = record {
   span = a.span;
   proof = tree_text 0 (proof_tree setting budget (root_for setting taken a));
   block = block_by (executed setting) (given setting) a.marked (grown_log setting budget (root_for setting taken a));
+  graph = graph (given setting) a.name (grown_log setting budget (root_for setting taken a));
 }
-to_print Check setting taken a = record {
+print_by None graph setting taken a = record {
   name = a.name;
   kind = a.kind;
   marked = a.marked;
@@ -110,6 +132,7 @@ to_print Check setting taken a = record {
   span = a.span;
   proof = [];
   block = block_by (executed setting) (given setting) a.marked (judged_log (judged_so setting (root_for setting taken a) a.proof));
+  graph = [];
 }
 
 -- what a lemma of which this is printed gives to the proofs of the lemmas behind it
@@ -117,21 +140,34 @@ abbrev pub taken_from : Asked → Printed → List Taken
 taken_from a p = taken_if (gives a.kind p.verdict a.attributes) a.name a.form
 
 -- each lemma takes what those before it gave
-abbrev pub all_to_print : Command → Setting → List Taken → List Asked → List Printed
-all_to_print command setting taken [] = []
-all_to_print command setting taken (a ∷ rest) =
-    to_print command setting taken a ∷ all_to_print command setting (taken ++ taken_from a (to_print command setting taken a)) rest
+abbrev pub all_print_by : Option ℕ → Graphing → Setting → List Taken → List Asked → List Printed
+all_print_by grows graph setting taken [] = []
+all_print_by grows graph setting taken (a ∷ rest) =
+    print_by grows graph setting taken a ∷ all_print_by grows graph setting (taken ++ taken_from a (print_by grows graph setting taken a)) rest
 
 -- each place that the grown proof names is one that a text can name, and each fresh name of the execution that is found
-abbrev pub IsNameable : Command → Setting → List Taken → Asked → Type 0
-IsNameable (Prove budget) setting taken a =
+abbrev pub IsNameableBy : Option ℕ → Setting → List Taken → Asked → Type 0
+IsNameableBy (Some budget) setting taken a =
     HavePlaces (proof_tree setting budget (root_for setting taken a)) × IsNumberedBy (executed setting) (given setting) a.marked (grown_log setting budget (root_for setting taken a))
-IsNameable Check setting taken a = IsNumberedBy (executed setting) (given setting) a.marked (judged_log (judged_so setting (root_for setting taken a) a.proof))
+IsNameableBy None setting taken a = IsNumberedBy (executed setting) (given setting) a.marked (judged_log (judged_so setting (root_for setting taken a) a.proof))
+
+abbrev pub AreNameableBy : Option ℕ → Graphing → Setting → List Taken → List Asked → Type 0
+AreNameableBy grows graph setting taken [] = Unit {0}
+AreNameableBy grows graph setting taken (a ∷ rest) =
+    IsNameableBy grows setting taken a × AreNameableBy grows graph setting (taken ++ taken_from a (print_by grows graph setting taken a)) rest
+
+-- so by the command
+abbrev pub to_print : Command → Setting → List Taken → Asked → Printed
+to_print command setting taken a = print_by (growth command) (graphing command) setting taken a
+
+abbrev pub all_to_print : Command → Setting → List Taken → List Asked → List Printed
+all_to_print command setting taken as' = all_print_by (growth command) (graphing command) setting taken as'
+
+abbrev pub IsNameable : Command → Setting → List Taken → Asked → Type 0
+IsNameable command setting taken a = IsNameableBy (growth command) setting taken a
 
 abbrev pub AreNameable : Command → Setting → List Taken → List Asked → Type 0
-AreNameable command setting taken [] = Unit {0}
-AreNameable command setting taken (a ∷ rest) =
-    IsNameable command setting taken a × AreNameable command setting (taken ++ taken_from a (to_print command setting taken a)) rest
+AreNameable command setting taken as' = AreNameableBy (growth command) (graphing command) setting taken as'
 
 -- ---- what is written
 
@@ -151,6 +187,23 @@ spliced text start (p ∷ ps) end = between start p.span.from text ++ (codes "\n
 abbrev pub text_with : List ℕ → List Printed → ℕ → List ℕ
 text_with text ps end = spliced text 0 ps end ++ (codes "\n/*\n" ++ (lines ps ++ codes "*/\n"))
 
+-- the graphs, one after the other
+abbrev pub graphs_in : List Printed → List ℕ
+graphs_in [] = []
+graphs_in (p ∷ ps) = p.graph ++ graphs_in ps
+
+abbrev pub verdicts_in : List Printed → List Verdict
+verdicts_in ps = map (λ (p : Printed). p.verdict) ps
+
+abbrev pub steps_in : List Printed → ℕ
+steps_in [] = 0
+steps_in (p ∷ ps) = p.steps + steps_in ps
+
+abbrev pub counts_in : List Printed → List ℕ
+counts_in ps = counts_by (verdicts_in ps) (counted (steps_in ps))
+
 abbrev pub written_by : Command → List ℕ → List Printed → ℕ → List ℕ
 written_by (Prove budget) text ps end = text_with text ps end
 written_by Check text ps end = lines ps
+written_by (Graph budget) text ps end = graphs_in ps
+written_by (Count budget) text ps end = counts_in ps

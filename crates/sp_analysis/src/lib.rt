@@ -1,6 +1,6 @@
-// What comes of a text whose lemmas are to be proved: a proof is grown for each lemma, or the one below it is checked.
+// What comes of a text whose lemmas are to be proved: a proof is grown for each lemma, and written, drawn or counted, or the one below it is checked.
 // Below stand what a text poses (sp_pose), growth (sp_search), the texts of trees, written and read (sp_skel), the judge of trees that were read
-// (sp_check), and the logs with which a search ends, with their executions (sp_learn, sp_transfer, sp_law_found_log); above stands the top call.
+// (sp_check), and the logs with which a search ends, with their executions and graphs (sp_learn, sp_transfer, sp_law_found_log, sp_graph); above stands the top call.
 // Carried here: the promise that what is written of a lemma is so, with the execution that was found, and that a proof is accepted exactly
 // where each step is an instance.
 #![tactic(auto)]
@@ -10,6 +10,7 @@ mod block;
 mod chosen;
 mod replies;
 mod setting;
+mod shown;
 mod taken;
 mod tried;
 mod verdict;

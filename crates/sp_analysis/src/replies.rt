@@ -29,6 +29,10 @@ pub enum Command {
     Prove(u64),
     /// The proof that stands below each lemma is checked.
     Check,
+    /// A proof of at most so many moves is grown for each lemma, and the log that is found is written as a graph.
+    Graph(u64),
+    /// A proof of at most so many moves is grown for each lemma, and the verdicts are counted.
+    Count(u64),
 }
 
 /// What is written of a text's lemmas.

@@ -1,8 +1,7 @@
 // What comes of a lemma: a proof is grown for it, or the one below it is checked, and tells the verdict.
 
-ghost use Rattle.std.specs.Prelude.{◌≡◌, [], IfOk, OnOk, map, option_map};
+ghost use Rattle.std.specs.Prelude.{◌≡◌, [], IfOk, OnOk, Some, map, option_map};
 ghost use Rattle.sp_written.specs.Views as view;
-ghost use Rattle.sp_formula.specs.FormulaView.{formula_of};
 ghost use Rattle.sp_step.specs.View as moves;
 ghost use Rattle.sp_solved.specs.View.{root_of};
 ghost use Rattle.sp_spec_system.specs.Move as system;
@@ -25,6 +24,7 @@ use crate::beginning::beginning_of;
 use crate::block::block_of;
 use crate::replies::Command;
 use crate::setting::Setting;
+use crate::shown::graph_of;
 use crate::taken::{Taken, push_taken};
 use crate::verdict::Verdict;
 use sp_check::{Judgement, Skeleton, Step, judge};
@@ -58,6 +58,8 @@ pub struct Tried<'a> {
     pub proof: String,
     /// the block of the execution or the log that was found; empty where none was
     pub block: String,
+    /// the graph of the log that was found; empty where none is asked for
+    pub graph: String,
 }
 
 /// The system in which a proof begins.
@@ -169,22 +171,25 @@ fn grown(
     Ok(tree)
 }
 
-/// What comes of the lemma where a proof of at most so many moves is grown for it.
+/// What comes of the lemma where a proof of at most so many moves is grown for it by the command.
 fn try_lemma<'a>(
     alloc: Global,
+    command: Command,
     setting: &Setting,
     budget: u64,
     taken: &Vec<Taken>,
     lemma: &GuardedLemma<'a>,
 ) -> Result<Tried<'a>, AllocError>
-    ensures printed { IfOk result (λ t. print.printed_of t ≡ print.to_print (Command.Prove budget) (setting_in setting.now) (map taken_of taken.now.items) (ask.asked_of lemma.now)) }
-    ensures nameable { OnOk result (print.IsNameable (Command.Prove budget) (setting_in setting.now) (map taken_of taken.now.items) (ask.asked_of lemma.now)) }
+    ensures printed { IfOk result (λ t. print.printed_of t ≡ print.print_by (Some budget) (print.graphing command) (setting_in setting.now) (map taken_of taken.now.items) (ask.asked_of lemma.now)) }
+    ensures nameable { OnOk result (print.IsNameableBy (Some budget) (setting_in setting.now) (map taken_of taken.now.items) (ask.asked_of lemma.now)) }
 {
     let tree = grown(alloc, setting, budget, taken, lemma)?;
     let verdict = by_tree(lemma.kind, &tree);
     let steps = steps(&tree);
     let proof = tree_text(alloc, &tree)?;
-    let block = block_of(alloc, setting, lemma.marked, tree.found_log())?;
+    let log = tree.found_log();
+    let block = block_of(alloc, setting, lemma.marked, log)?;
+    let graph = graph_of(alloc, command, setting, lemma.name, log)?;
     Ok(Tried {
         name: lemma.name,
         kind: lemma.kind,
@@ -194,6 +199,7 @@ fn try_lemma<'a>(
         span: lemma.span,
         proof,
         block,
+        graph,
     })
 }
 
@@ -278,6 +284,8 @@ fn judge_lemma<'a>(
     let (judgement, steps) = judged(alloc, setting, taken, lemma)?;
     let verdict = by_judgement(lemma.kind, &judgement);
     let block = block_of(alloc, setting, lemma.marked, judged_log(&judgement))?;
+    let proof = String::new(alloc);
+    let graph = String::new(alloc);
     Ok(Tried {
         name: lemma.name,
         kind: lemma.kind,
@@ -285,8 +293,9 @@ fn judge_lemma<'a>(
         verdict,
         steps,
         span: lemma.span,
-        proof: String::new(alloc),
+        proof,
         block,
+        graph,
     })
 }
 
@@ -302,7 +311,9 @@ fn outcome<'a>(
     ensures nameable { OnOk result (print.IsNameable command (setting_in setting.now) (map taken_of taken.now.items) (ask.asked_of lemma.now)) }
 {
     match command {
-        Command::Prove(budget) => try_lemma(alloc, setting, budget, taken, lemma),
+        Command::Prove(budget) | Command::Graph(budget) | Command::Count(budget) => {
+            try_lemma(alloc, command, setting, budget, taken, lemma)
+        }
         Command::Check => judge_lemma(alloc, setting, taken, lemma),
     }
 }

@@ -12,6 +12,7 @@ ghost use Rattle.sp_analysis.specs.View.{verdict_of};
 ghost use Rattle.sp_analysis.specs.Printed as print;
 
 use crate::replies::Command;
+use crate::shown::{counts, graphs};
 use crate::tried::Tried;
 use crate::verdict::Verdict;
 use sp_check::Clause;
@@ -191,6 +192,8 @@ pub fn written_by(
     match command {
         Command::Prove(_) => analysed_text(alloc, text, lemmas, end),
         Command::Check => summary(alloc, lemmas),
+        Command::Graph(_) => graphs(alloc, lemmas),
+        Command::Count(_) => counts(alloc, lemmas),
     }
 }
 

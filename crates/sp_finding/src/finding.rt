@@ -1,11 +1,12 @@
 // Findings, and the lines that say them.
 
 ghost use Rattle.std.specs.Prelude.{◌≡◌, [], IfOk, OnOk, string_bytes};
-ghost use Rattle.sp_spec.specs.Written.{is_listed};
 ghost use Rattle.sp_finding.specs.Finding as spec;
 ghost use Rattle.sp_finding.specs.Finding.{lines_after};
-ghost use Rattle.sp_finding.specs.View.{finding_of, lines_of, on_formula, on_rule};
+ghost use Rattle.sp_finding.specs.View.{finding_of, on_formula, on_rule};
+ghost use Rattle.sp_lines.specs.TextsView.{texts_of};
 
+use sp_lines::Texts;
 use std::alloc::{AllocError, Global};
 
 /// A fatal finding on a theory.
@@ -152,18 +153,6 @@ fn line(alloc: Global, finding: Finding) -> Result<String, AllocError>
     }
 }
 
-/// Whether the line is one of these.
-fn is_among(line: &str, lines: &Vec<String>) -> bool
-    ensures { result ≡ is_listed line.now (lines_of lines.now.items) }
-{
-    for other in lines {
-        if other.as_str() == line {
-            return true;
-        }
-    }
-    false
-}
-
 /// Puts the finding's line at the end, where the condition holds and the line doesn't stand yet.
 ///
 /// # Errors
@@ -171,19 +160,15 @@ fn is_among(line: &str, lines: &Vec<String>) -> bool
 /// `AllocError` where memory is wanting.
 pub fn tell_if(
     alloc: Global,
-    lines: &mut Vec<String>,
+    lines: &mut Texts,
     holds: bool,
     finding: Finding,
 ) -> Result<(), AllocError>
-    ensures { OnOk result (lines_of lines.new.items ≡ lines_after (lines_of lines.old.items) (spec.told holds (finding_of finding.entry) [])) }
+    ensures { OnOk result (texts_of lines.new ≡ lines_after (texts_of lines.old) (spec.told holds (finding_of finding.entry) [])) }
 {
-    if !holds {
-        return Ok(());
+    if holds {
+        let line = line(alloc, finding)?;
+        lines.see(line)?;
     }
-    let line = line(alloc, finding)?;
-    if is_among(&line, lines) {
-        return Ok(());
-    }
-    lines.push(line)?;
     Ok(())
 }

@@ -3,31 +3,22 @@
 ghost use Rattle.std.specs.Prelude.{◌≡◌, [], not, OnOk, map};
 ghost use Rattle.sp_spec.specs.Term.{count};
 ghost use Rattle.sp_term.specs.View.{name_of};
-ghost use Rattle.sp_fact.specs.GroundView.{equation_of, symbol_of};
+ghost use Rattle.sp_fact.specs.GroundView.{equation_of};
 ghost use Rattle.sp_conv.specs.Tests.{is_destructor};
 ghost use Rattle.sp_read_parts.specs.Views as parts;
 ghost use Rattle.sp_finding.specs.Finding.{lines_after, told, unknown_symbol};
+ghost use Rattle.sp_finding.specs.KnownView.{symbols_of};
 ghost use Rattle.sp_finding.specs.TermFindings as spec;
-ghost use Rattle.sp_finding.specs.View.{lines_of};
+ghost use Rattle.sp_lines.specs.TextsView.{texts_of};
 
 use crate::finding::{Finding, tell_if};
+use crate::known::KnownSymbols;
 use sp_conv::form::is_destructor;
-use sp_fact::signature::{Equation, Symbol};
+use sp_fact::signature::Equation;
+use sp_lines::Texts;
 use sp_read_parts::WrittenTerm;
 use sp_term::term::{Name, Term};
 use std::alloc::{AllocError, Global};
-
-/// Whether one of the symbols has this name and so many arguments.
-fn has_symbol(symbols: &Vec<Symbol>, name: &Name, count: usize) -> bool
-    ensures { result ≡ spec.has_symbol (map symbol_of symbols.now.items) (name_of name.now) count }
-{
-    for symbol in symbols {
-        if symbol.name == *name && symbol.arity == count {
-            return true;
-        }
-    }
-    false
-}
 
 /// How many terms there are.
 #[tactic(auto, using(crate::proofs::Counted::counted))]
@@ -40,15 +31,15 @@ fn count(terms: &Vec<WrittenTerm>) -> usize
 /// Tells of the symbol over these terms where it isn't one of these symbols.
 fn tell_symbol(
     alloc: Global,
-    lines: &mut Vec<String>,
-    symbols: &Vec<Symbol>,
+    lines: &mut Texts,
+    symbols: &KnownSymbols,
     symbol: &Name,
     terms: &Vec<WrittenTerm>,
 ) -> Result<(), AllocError>
-    ensures { OnOk result (lines_of lines.new.items ≡ lines_after (lines_of lines.old.items) (told (not (spec.has_symbol (map symbol_of symbols.now.items) (name_of symbol.now) (count (parts.terms terms.now.items)))) (unknown_symbol (name_of symbol.now) (count (parts.terms terms.now.items))) [])) }
+    ensures { OnOk result (texts_of lines.new ≡ lines_after (texts_of lines.old) (told (not (spec.has_symbol (symbols_of symbols.now) (name_of symbol.now) (count (parts.terms terms.now.items)))) (unknown_symbol (name_of symbol.now) (count (parts.terms terms.now.items))) [])) }
 {
     let count = count(terms);
-    let is_unknown = !has_symbol(symbols, symbol, count);
+    let is_unknown = !symbols.has(symbol, count);
     let finding = Finding::UnknownSymbol(symbol.text.as_str(), count);
     tell_if(alloc, lines, is_unknown, finding)
 }
@@ -62,11 +53,11 @@ fn tell_symbol(
 #[tactic(auto, using(crate::proofs::Telling::told_on))]
 pub fn tell_unknown(
     alloc: Global,
-    lines: &mut Vec<String>,
-    symbols: &Vec<Symbol>,
+    lines: &mut Texts,
+    symbols: &KnownSymbols,
     term: &WrittenTerm,
 ) -> Result<(), AllocError>
-    ensures { OnOk result (lines_of lines.new.items ≡ lines_after (lines_of lines.old.items) (spec.unknown_in (map symbol_of symbols.now.items) (parts.term term.now))) }
+    ensures { OnOk result (texts_of lines.new ≡ lines_after (texts_of lines.old) (spec.unknown_in (symbols_of symbols.now) (parts.term term.now))) }
 {
     match term {
         Term::App(symbol, terms, _) => {
@@ -86,11 +77,11 @@ pub fn tell_unknown(
 #[cycle(unknown)]
 pub fn tell_unknown_in_all(
     alloc: Global,
-    lines: &mut Vec<String>,
-    symbols: &Vec<Symbol>,
+    lines: &mut Texts,
+    symbols: &KnownSymbols,
     terms: &Vec<WrittenTerm>,
 ) -> Result<(), AllocError>
-    ensures { OnOk result (lines_of lines.new.items ≡ lines_after (lines_of lines.old.items) (spec.unknown_in_all (map symbol_of symbols.now.items) (parts.terms terms.now.items))) }
+    ensures { OnOk result (texts_of lines.new ≡ lines_after (texts_of lines.old) (spec.unknown_in_all (symbols_of symbols.now) (parts.terms terms.now.items))) }
 {
     for term in terms {
         tell_unknown(alloc, lines, symbols, term)?;

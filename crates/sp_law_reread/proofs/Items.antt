@@ -17,7 +17,7 @@ use Rattle.sp_spec_text.specs.Theories as g
 use Rattle.sp_spec_text.specs.Theories.{SpellsLemma, SpellsDeclaration, SpellsProofPart, SpellsItems, SpellsTheory}
 use Rattle.sp_read_listings.specs.Heuristics.{the_end}
 use Rattle.sp_spec_text.specs.Texts.{IsTextOf, ArePlaces}
-use Rattle.sp_read_theory.proofs.LemmaParts.{lemma_one}
+use Rattle.sp_read_lemmas.proofs.LemmaParts.{lemma_one}
 use Rattle.sp_read_theory.proofs.Declared.{declaration_rest, declaration_not_lemma}
 use Rattle.sp_read_listings.proofs.Follows.{items_word}
 use Rattle.sp_skel.specs.Spelling.{spelled}

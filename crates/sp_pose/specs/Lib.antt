@@ -4,3 +4,5 @@ pub mod Asked
 pub mod Posed
 pub mod Numbering
 pub mod Replies
+pub mod Examined
+pub mod Reviewed

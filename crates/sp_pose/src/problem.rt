@@ -1,6 +1,6 @@
 // What a text sets out to prove.
 
-ghost use Rattle.std.specs.Prelude.{◌≡◌, ◌∷◌, [], ◌++◌, Some, None, IfOk, OnOk, MatchOption, map, option_map};
+ghost use Rattle.std.specs.Prelude.{◌≡◌, ◌∷◌, [], ◌++◌, Some, None, IfOk, OnOk, MatchOption, length, map, option_map};
 ghost use Rattle.sp_spec.specs.Written as written;
 ghost use Rattle.sp_fact.specs.View.{rule_of};
 ghost use Rattle.sp_declared.specs.WrittenRules.{rules_written};
@@ -12,24 +12,24 @@ ghost use Rattle.sp_read_parts.specs.Formulas.{formula};
 ghost use Rattle.sp_pose.specs.Asked.{asked_of, asked_with, asked_then, lemmas_read, all_asked};
 ghost use Rattle.sp_pose.specs.Required.{required_of, required_by, all_required};
 ghost use Rattle.sp_fact.specs.GroundView.{signature_of};
-ghost use Rattle.sp_pose.specs.Posed.{IsRead, IsMadeOf};
+ghost use Rattle.sp_wf.specs.Report.{text_of};
+ghost use Rattle.sp_finding.specs.View.{lines_of};
+ghost use Rattle.sp_warn.specs.Warnings as spec;
+ghost use Rattle.sp_warn.specs.Warnings.{warnings_on};
+ghost use Rattle.sp_pose.specs.Examined.{IsExamined};
+ghost use Rattle.sp_pose.specs.Posed.{IsPosedBy, IsRead, IsMadeOf};
 
+use crate::examined::{SaidTheory, examined, report};
 use crate::numbering::numbered;
-use sp_declared::equations::equations;
 use sp_declared::public_names::constants;
 use sp_declared::signature::signature;
-use sp_declared::symbols::symbols;
 use sp_fact::rule::Rule;
 use sp_fact::signature::Signature;
 use sp_finding::names_learning;
 use sp_formula::formula::Formula;
 use sp_guard::marks::checked_form;
-use sp_place::refused_at;
-use sp_read_theory::read_theory;
-use sp_resolved::resolved;
 use sp_term::term::Name;
-use sp_wf::report;
-use sp_wf_rules::bound_in;
+use sp_warn::warnings;
 use sp_written::{Attribute, Item, ReadTheory, Span, TraceKind, WrittenLemma, WrittenProof};
 use std::alloc::{AllocError, Global};
 
@@ -304,6 +304,31 @@ fn posed<'a>(
     }))
 }
 
+/// What a text without fatal findings poses.
+fn posed_of<'a>(
+    alloc: Global,
+    text: &'a [u8],
+    examined: SaidTheory<'a>,
+) -> Result<Problem<'a>, AllocError>
+    requires examined { IsExamined text.now examined }
+    requires fine { length examined.fatal.items ≡ 0 }
+    ensures { IfOk result (IsPosedBy text.now) }
+{
+    let signature = signature(alloc, examined.symbols, examined.equations)?;
+    let Some(problem) = posed(alloc, signature, examined.theory)? else {
+        unreachable!()
+    };
+    Ok(problem)
+}
+
+/// The report on what a text says, on which there are fatal findings.
+fn reported(alloc: Global, examined: &SaidTheory) -> Result<Vec<u8>, AllocError>
+    ensures { IfOk result (λ text. text.items ≡ text_of (lines_of examined.now.fatal.items ++ spec.lines_of (warnings_on (view.items examined.now.theory.items.items)))) }
+{
+    let warnings = warnings(alloc, &examined.theory)?;
+    report(alloc, &examined.fatal, &warnings)
+}
+
 /// What comes of reading a text.
 ///
 /// # Errors
@@ -312,23 +337,16 @@ fn posed<'a>(
 pub fn posed_by<'a>(alloc: Global, text: &'a [u8]) -> Result<Read<'a>, AllocError>
     ensures { IfOk result (IsRead text.now) }
 {
-    let Some(read) = read_theory(alloc, text)? else {
-        let Some(place) = refused_at(alloc, text)? else {
-            unreachable!()
-        };
-        return Ok(Read::Refused(place));
-    };
-    let bound = bound_in(alloc, &read.items)?;
-    let symbols = symbols(alloc, &read.items)?;
-    let theory = resolved(alloc, &symbols, read)?;
-    let equations = equations(alloc, &theory.items)?;
-    let lines = report(alloc, &symbols, &equations, &bound, &theory)?;
-    if !lines.is_empty() {
-        return Ok(Read::Reported(lines));
+    match examined(alloc, text)? {
+        Err(place) => Ok(Read::Refused(place)),
+        Ok(examined) => {
+            if examined.fatal.is_empty() {
+                let problem = posed_of(alloc, text, examined)?;
+                Ok(Read::Posed(problem))
+            } else {
+                let lines = reported(alloc, &examined)?;
+                Ok(Read::Reported(lines))
+            }
+        }
     }
-    let signature = signature(alloc, symbols, equations)?;
-    let Some(problem) = posed(alloc, signature, theory)? else {
-        unreachable!()
-    };
-    Ok(Read::Posed(problem))
 }

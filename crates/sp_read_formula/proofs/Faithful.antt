@@ -6,7 +6,8 @@ use Rattle.sp_spec.specs.Formula.{Formula}
 use Rattle.sp_spec_text.specs.Lists.{IsNotFirst}
 use Rattle.sp_spec_text.specs.Formulas as g
 use Rattle.sp_spec_text.specs.Formulas.{NoSign, SpellsUnit, SpellsNegation, SpellsConjunction, SpellsAnds, SpellsDisjunction, SpellsOrs, SpellsImplication, SpellsFormula, SpellsReach}
-use Rattle.sp_read_formula.specs.Reading.{two_sides, first, second, IsAtom, true_word, false_word, all_word, ex_word, sign_of, Part, a_group, a_binding, a_unit, a_negation, a_chain, an_implication, a_whole, Reads, grouped, bound, shallow, from_group, from_binding, positive, negative, chained, lone, implying, single, double, GoesOn, ended, went}
+use Rattle.sp_read_atoms.specs.Atoms.{two_sides, first, second, IsAtom, true_word, false_word}
+use Rattle.sp_read_formula.specs.Reading.{all_word, ex_word, sign_of, Part, a_group, a_binding, a_unit, a_negation, a_chain, an_implication, a_whole, Reads, grouped, bound, shallow, from_group, from_binding, positive, negative, chained, lone, implying, single, double, GoesOn, ended, went}
 use Rattle.sp_read_parts.specs.Formulas.{Joint, conjoint, disjoint}
 use Rattle.sp_read_parts.proofs.Spelled.{variable_spelled, term_spelled, fact_spelled, binders_spelled}
 

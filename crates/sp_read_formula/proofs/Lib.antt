@@ -1,9 +1,7 @@
-pub mod Atomic
 pub mod OneFormula
 mod Depth
 mod Stuck
 mod Faithful
-pub mod Apart
+mod Enclosed
 pub mod Taken
-pub mod LetBindings
 pub mod Plain

@@ -7,7 +7,7 @@ use Rattle.sp_read_parts.specs.Parts.{AreBinders}
 use Rattle.sp_read_formula.specs.Reading.{IsQuantifier, all_word, ex_word, Part, a_group, a_binding, an_implication, a_whole, below, Reads, grouped, bound, shallow, from_group, from_binding, positive, negative, chained, lone, implying, single, double, GoesOn, ended, went}
 use Rattle.sp_read_parts.specs.Formulas.{Joint, join}
 use Rattle.sp_read_parts.proofs.One.{One, binders_one}
-use Rattle.sp_read_formula.proofs.Atomic.{atom_one}
+use Rattle.sp_read_atoms.proofs.Atomic.{atom_one}
 
 -- ---- quantifiers
 

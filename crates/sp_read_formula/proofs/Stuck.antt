@@ -6,7 +6,8 @@ use Rattle.sp_spec.specs.Formula.{Written, Formula, not_so, implies}
 use Rattle.sp_spec_text.specs.Lists.{IsNotFirst, NoReading}
 use Rattle.sp_read_parts.specs.Parts.{AreBinders}
 use Rattle.sp_spec_text.specs.Formulas.{equivalent}
-use Rattle.sp_read_formula.specs.Reading.{IsAtom, IsQuantifier, bind, sign_of, a_group, a_binding, a_unit, a_negation, a_chain, an_implication, a_whole, below, Reads, grouped, bound, shallow, from_group, from_binding, positive, negative, chained, lone, implying, single, double, GoesOn, ended, went}
+use Rattle.sp_read_atoms.specs.Atoms.{IsAtom}
+use Rattle.sp_read_formula.specs.Reading.{IsQuantifier, bind, sign_of, a_group, a_binding, a_unit, a_negation, a_chain, an_implication, a_whole, below, Reads, grouped, bound, shallow, from_group, from_binding, positive, negative, chained, lone, implying, single, double, GoesOn, ended, went}
 use Rattle.sp_read_parts.specs.Formulas.{Joint, disjoint, join, linked}
 use Rattle.sp_read_parts.proofs.Chains.{linked_more}
 use Rattle.sp_read_parts.proofs.One.{binders_one}

@@ -1,12 +1,11 @@
--- Formulas up to a closing sign, and bindings up to a closing word, which is how they stand in a text.
+-- Formulas up to a closing sign, which is how they stand in a text.
 use Rattle.std.specs.Prelude.{◌≡◌, ℕ, List, ◌∷◌}
 use Rattle.sp_spec_text.specs.Signs.{Sign}
 use Rattle.sp_spec_text.specs.Signs as s
 use Rattle.sp_spec_text.specs.Token.{Lexeme, sign}
 use Rattle.sp_spec.specs.Formula.{Formula}
 use Rattle.sp_spec_text.specs.Formulas.{SpellsFormula}
-use Rattle.sp_spec_text.specs.Bindings.{Binding}
-use Rattle.sp_spec_text.specs.Theories.{SpellsQuoted, SpellsBindings}
+use Rattle.sp_spec_text.specs.Theories.{SpellsQuoted}
 
 -- a closing sign behind a formula: `)` or `"`
 abbrev pub Closes : Sign → Type 0
@@ -25,7 +24,3 @@ pub record ClosedFormulasAreOne : Type 0 where
 -- a formula behind its opening quote, and what follows its closing quote, are fixed by the tokens
 pub record QuotedFormulasAreOne : Type 0 where
   pub one : (tokens r q : List Lexeme) (f g : Formula) → SpellsQuoted tokens f r → SpellsQuoted tokens g q → (f ≡ g) × (r ≡ q)
-
--- what `let` binds, and what follows its `in`, are fixed by the tokens
-pub record BindingsAreOne : Type 0 where
-  pub one : (tokens r q : List Lexeme) (bs cs : List Binding) → SpellsBindings tokens bs r → SpellsBindings tokens cs q → (bs ≡ cs) × (r ≡ q)

@@ -1,4 +1,3 @@
 pub mod Reading
 pub mod Given
-pub mod Lets
 pub mod Closed

@@ -3,7 +3,8 @@ ghost use Rattle.std.specs.Prelude.{◌≡◌, [], ◌∷◌, ◌++◌, MatchOpt
 ghost use Rattle.sp_spec.specs.Formula.{not_so, implies};
 ghost use Rattle.sp_spec_text.specs.Lists.{NoReading};
 ghost use Rattle.sp_spec_text.specs.Formulas.{equivalent};
-ghost use Rattle.sp_read_formula.specs.Reading.{IsAtom, IsQuantifier, bind, a_group, a_unit, a_chain, an_implication, a_whole, below};
+ghost use Rattle.sp_read_atoms.specs.Atoms.{IsAtom};
+ghost use Rattle.sp_read_formula.specs.Reading.{IsQuantifier, bind, a_group, a_unit, a_chain, an_implication, a_whole, below};
 ghost use Rattle.sp_read_parts.specs.Formulas.{disjoint};
 ghost use Rattle.sp_read_formula.specs.Reading.{sign_of as between};
 ghost use Rattle.sp_read_formula.specs.Closed.{Closes, IsClosed};
@@ -12,8 +13,8 @@ ghost use Rattle.sp_read_parts.specs.Views.{seen_from};
 ghost use Rattle.sp_read_parts.specs.Formulas as view;
 ghost use Rattle.sp_read_formula.specs.Given as given;
 
-use crate::atoms::atom;
 use sp_lex::{Sign, Token};
+use sp_read_atoms::atoms::atom;
 use sp_read_parts::binders::binders;
 use sp_read_parts::cursor::{after, behind};
 use sp_read_parts::terms::LIMIT;

@@ -10,13 +10,13 @@ use Rattle.sp_spec_text.specs.Written.{Item, builtins_item, functions_item, equa
 use Rattle.sp_spec_text.specs.Theories as g
 use Rattle.sp_spec_text.specs.Theories.{SpellsBuiltin, SpellsFunction, SpellsEquation, SpellsWords, SpellsDeclaration}
 use Rattle.sp_read_parts.specs.Parts.{IsTerm}
-use Rattle.sp_read_formula.specs.Reading.{first, second}
+use Rattle.sp_read_atoms.specs.Atoms.{first, second}
 use Rattle.sp_read_parts.proofs.One.{One, terms, term_one}
-use Rattle.sp_read_formula.proofs.Apart.{EndsTerm, sign_ends, word_ends}
-use Rattle.sp_read_formula.proofs.Atomic.{or_else_one, or_else_none}
+use Rattle.sp_read_atoms.proofs.Apart.{EndsTerm, sign_ends, word_ends}
+use Rattle.sp_read_atoms.proofs.Atomic.{or_else_one, or_else_none}
 use Rattle.sp_read_parts.proofs.Sequence.{Fixed, fixed_none, fixed_one, Then, no_first, no_second, Becomes, no_whole}
 use Rattle.sp_read_parts.proofs.Spelled.{term_spelled}
-use Rattle.sp_read_formula.proofs.Taken.{term_taken}
+use Rattle.sp_read_atoms.proofs.Taken.{term_taken}
 use Rattle.sp_read_listings.specs.Made.{Made, made_of}
 use Rattle.sp_read_listings.specs.Listings.{IsBuiltin, IsFunction, IsEquation, equation, AreAll, Headed, NotHeaded, Under, under_colon, IsListing}
 use Rattle.sp_read_listings.proofs.Follows.{StartsWord, Follows, words_taken}

@@ -3,9 +3,9 @@ use Rattle.std.proofs.Common.{◌≡◌, ℕ, List, ◌∷◌, refl, ap, subst}
 use Rattle.sp_spec_text.specs.Token.{Lexeme, block}
 use Rattle.sp_spec_text.specs.Lists.{IsNotFirst, NoReading}
 use Rattle.sp_read_parts.specs.Parts.{IsNameFirst, name}
-use Rattle.sp_read_formula.specs.Reading.{first, second}
+use Rattle.sp_read_atoms.specs.Atoms.{first, second}
 use Rattle.sp_read_parts.proofs.One.{One}
-use Rattle.sp_read_formula.proofs.Atomic.{or_else_none}
+use Rattle.sp_read_atoms.proofs.Atomic.{or_else_none}
 use Rattle.sp_read_listings.specs.Made.{Made, made_of}
 use Rattle.sp_read_listings.specs.Listings.{Headed, NotHeaded, Under, under_colon, IsBlock, text_block}
 

@@ -12,7 +12,7 @@ use Rattle.sp_spec_text.specs.Lists.{IsNotFirst, AreParts, AreListed}
 use Rattle.sp_spec_text.specs.Written.{Item, builtins_item, functions_item, equations_item, heuristic_item}
 use Rattle.sp_spec_text.specs.Theories.{SpellsBuiltin, SpellsAttribute}
 use Rattle.sp_read_parts.specs.Parts.{IsTerm}
-use Rattle.sp_read_formula.specs.Reading.{OrElse}
+use Rattle.sp_read_atoms.specs.Atoms.{OrElse}
 use Rattle.sp_read_listings.specs.Made.{Made}
 use Rattle.sp_read_listings.specs.Heuristics.{AreWords}
 

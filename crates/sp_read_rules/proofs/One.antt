@@ -10,7 +10,7 @@ use Rattle.sp_spec_text.specs.Formulas.{SpellsFact}
 use Rattle.sp_read_parts.proofs.One as parts
 use Rattle.sp_read_parts.proofs.One.{One, fact_sign, facts'}
 use Rattle.sp_read_parts.proofs.Spelled.{items_spelled, fact_spelled}
-use Rattle.sp_read_formula.proofs.Taken.{facts_taken}
+use Rattle.sp_read_atoms.proofs.Taken.{facts_taken}
 use Rattle.sp_spec_text.specs.Theories as g
 use Rattle.sp_spec_text.specs.Theories.{SpellsFacts, SpellsArrow}
 

@@ -11,8 +11,8 @@ use Rattle.sp_read_parts.specs.Parts.{IsFact}
 use Rattle.sp_spec_text.specs.Shapes.{action_of}
 use Rattle.sp_read_parts.proofs.One.{One}
 use Rattle.sp_read_parts.proofs.Sequence.{Fixed, fixed_none, fixed_one, Then, no_first, no_second, Becomes, no_whole}
-use Rattle.sp_read_formula.proofs.Taken.{facts_taken}
-use Rattle.sp_read_formula.proofs.LetBindings.{bindings_one}
+use Rattle.sp_read_atoms.proofs.Taken.{facts_taken}
+use Rattle.sp_read_atoms.proofs.LetBindings.{bindings_one}
 use Rattle.sp_spec_text.specs.Theories as g
 use Rattle.sp_spec_text.specs.Theories.{SpellsFacts, SpellsArrow, SpellsBindings, SpellsLet, SpellsRuleHead, SpellsRule}
 use Rattle.sp_read_rules.specs.Rules.{IsLet, nothing_bound, bound, IsTransition, transition, IsRule}

@@ -9,7 +9,7 @@ ghost use Rattle.sp_read_rules.specs.Views.{seen_from};
 use crate::heads::rule_head;
 use sp_fact::fact::{Action, Facts};
 use sp_lex::{Sign, Token};
-use sp_read_formula::bindings::bindings;
+use sp_read_atoms::bindings::bindings;
 use sp_read_parts::cursor::{after, behind};
 use sp_read_parts::facts::fact_list;
 use sp_read_parts::{WrittenAction, WrittenBinding, WrittenFact, WrittenRule, WrittenVariable};

@@ -12,9 +12,9 @@ use Rattle.sp_spec_text.specs.Written.{Attribute, Item, heuristic_item, rule_ite
 use Rattle.sp_spec_text.specs.Theories as g
 use Rattle.sp_spec_text.specs.Theories.{SpellsBuiltin, SpellsFunction, SpellsEquation, SpellsRuleHead, SpellsRule, SpellsRestriction, SpellsLemma, SpellsWords, SpellsDeclaration}
 use Rattle.sp_spec_text.proofs.Words.{end_reserved}
-use Rattle.sp_read_formula.specs.Reading.{first, second}
+use Rattle.sp_read_atoms.specs.Atoms.{first, second}
 use Rattle.sp_read_parts.proofs.One.{One}
-use Rattle.sp_read_formula.proofs.Atomic.{or_else_one}
+use Rattle.sp_read_atoms.proofs.Atomic.{or_else_one}
 use Rattle.sp_read_listings.specs.Made.{made_of}
 use Rattle.sp_read_listings.specs.Listings.{IsBlock, text_block}
 use Rattle.sp_read_listings.proofs.Follows.{StartsWord, Follows}
@@ -25,8 +25,8 @@ use Rattle.sp_read_listings.proofs.SymbolParts.{functions_one}
 use Rattle.sp_read_listings.proofs.Words.{words_rest}
 use Rattle.sp_read_rules.specs.Rules.{IsRule}
 use Rattle.sp_read_rules.proofs.RuleParts.{rule_one, rules'}
-use Rattle.sp_read_theory.specs.Items.{IsRuleItem, IsStatement, IsDeclaration}
-use Rattle.sp_read_theory.proofs.LemmaParts.{restrictions'}
+use Rattle.sp_read_lemmas.specs.Items.{IsRuleItem, IsStatement, IsDeclaration}
+use Rattle.sp_read_lemmas.proofs.LemmaParts.{restrictions'}
 
 -- ---- items
 

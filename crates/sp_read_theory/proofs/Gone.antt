@@ -9,15 +9,16 @@ use Rattle.sp_written.specs.declared.theory.Item.TheVariants as i
 use Rattle.sp_spec_text.specs.Spans.{Span}
 use Rattle.sp_spec_text.specs.Lists.{IsNotFirst, NoReading}
 use Rattle.sp_spec_text.specs.Theories.{SpellsItems, no_item, declaration_first, lemma_first}
-use Rattle.sp_read_theory.specs.Lemmas.{IsLemma}
+use Rattle.sp_read_lemmas.specs.Lemmas.{IsLemma}
 use Rattle.sp_read_listings.specs.Heuristics.{the_end}
-use Rattle.sp_read_theory.specs.Items.{IsDeclaration, ReadsItem, a_declaration, a_lemma, NoItem, AreItemsToEnd, NoItems}
+use Rattle.sp_read_lemmas.specs.Items.{IsDeclaration, ReadsItem, a_declaration, a_lemma}
+use Rattle.sp_read_theory.specs.Items.{NoItem, AreItemsToEnd, NoItems}
 use Rattle.sp_spec_text.specs.Spans.{EndsWith, AreSpans, no_span, past_declaration, past_lemma}
 use Rattle.sp_read_theory.specs.Views as view
 use Rattle.sp_read_listings.proofs.Follows.{items_follow}
 use Rattle.sp_read_theory.proofs.Declared.{declaration_spelled, declaration_taken, declaration_not_end, lemma_not_end}
 use Rattle.sp_read_theory.proofs.OneTheory.{Behind, behind_declaration, behind_lemma}
-use Rattle.sp_read_theory.proofs.Suffix.{ends_with}
+use Rattle.sp_read_lemmas.proofs.Suffix.{ends_with}
 
 -- these items stand before the rest, and the proofs of their lemmas have these spans
 pub record Gone (tokens : List Token) (items : List Item) (spans : List Span) (rest : List Token) : Type 0 where

@@ -1,9 +1,5 @@
-pub mod One
-pub mod LemmaHeads
-pub mod LemmaParts
 pub mod Declared
 pub mod OneTheory
-pub mod Suffix
 pub mod Spans
 pub mod Gone
 pub mod Whole

@@ -11,9 +11,10 @@ use Rattle.sp_spec_text.specs.Theories as g
 use Rattle.sp_spec_text.specs.Theories.{SpellsDeclaration, SpellsLemma, SpellsProofPart, SpellsItems, SpellsTheory}
 use Rattle.sp_read_listings.specs.Heuristics.{the_end}
 use Rattle.sp_read_listings.specs.Listings.{IsBlock, text_block}
-use Rattle.sp_read_theory.specs.Items.{IsDeclaration, HasNoProof, no_start, by_block, IsGreedy, AreItemsToEnd}
+use Rattle.sp_read_lemmas.specs.Items.{IsDeclaration, HasNoProof, no_start, by_block, IsGreedy}
+use Rattle.sp_read_theory.specs.Items.{AreItemsToEnd}
 use Rattle.sp_read_listings.proofs.Follows.{items_follow, items_word}
-use Rattle.sp_read_theory.proofs.LemmaParts.{lemma_one}
+use Rattle.sp_read_lemmas.proofs.LemmaParts.{lemma_one}
 use Rattle.sp_spec_text.proofs.Words.{restriction_words}
 use Rattle.sp_read_theory.proofs.Declared.{declaration_one, declaration_spelled, declaration_taken, declaration_not_lemma, declaration_not_end, lemma_not_end, rule_start}
 

@@ -14,9 +14,9 @@ use Rattle.sp_spec_text.specs.Theories.{SpellsProofPart, SpellsItems}
 use Rattle.sp_read_listings.specs.Heuristics.{the_end}
 use Rattle.sp_spec_text.specs.Spans.{IsBehind, EndsAt, EndsWith, AreSpans, no_span, past_declaration, past_lemma, is_feed, goes_on, Rise}
 use Rattle.sp_read_listings.proofs.Follows.{StartsWord, declaration_word, lemma_starts, items_word}
-use Rattle.sp_read_theory.proofs.LemmaParts.{lemma_one}
+use Rattle.sp_read_lemmas.proofs.LemmaParts.{lemma_one}
 use Rattle.sp_read_theory.proofs.Declared.{declaration_rest, declaration_not_lemma}
-use Rattle.sp_read_theory.proofs.Suffix.{end_one, behind_one}
+use Rattle.sp_read_lemmas.proofs.Suffix.{end_one, behind_one}
 
 -- ---- one span for each lemma
 

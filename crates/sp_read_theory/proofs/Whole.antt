@@ -21,7 +21,7 @@ use Rattle.sp_spec_text.specs.Spans.{AreSpans, Rise}
 use Rattle.sp_spec_text.specs.Texts.{IsTextOf, IsNoText, ArePlaces}
 use Rattle.sp_read_theory.specs.Views.{seen_from}
 use Rattle.sp_read_theory.proofs.OneTheory.{theory_one}
-use Rattle.sp_read_theory.proofs.Suffix.{three_further}
+use Rattle.sp_read_lemmas.proofs.Suffix.{three_further}
 use Rattle.sp_read_theory.proofs.Spans.{spans_one, rise, rising, dropped}
 
 -- ---- the opening

@@ -1,4 +1,3 @@
-pub mod Lemmas
 pub mod Items
 pub mod Views
 pub mod Laws

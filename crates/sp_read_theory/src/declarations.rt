@@ -2,12 +2,12 @@
 
 ghost use Rattle.std.specs.Prelude.{◌≡◌, [], ◌∷◌, MatchOption, IfSome, IfOk, ◌≤◌, ◌<◌, length};
 ghost use Rattle.sp_spec_text.specs.Lists.{NoReading};
-ghost use Rattle.sp_read_theory.specs.Items.{IsBlockItem, IsRuleItem, IsStatement, IsDeclaration};
+ghost use Rattle.sp_read_lemmas.specs.Items.{IsBlockItem, IsRuleItem, IsStatement, IsDeclaration};
 ghost use Rattle.sp_read_theory.specs.Views as view;
 ghost use Rattle.sp_read_theory.specs.Views.{seen_from};
 
-use crate::lemmas::restriction_item;
 use sp_lex::Token;
+use sp_read_lemmas::lemmas::restriction_item;
 use sp_read_listings::blocks::text_block;
 use sp_read_listings::listings::listing;
 use sp_read_rules::rules::rule;

@@ -1,13 +1,14 @@
 ghost use Rattle.std.specs.Prelude.{◌≡◌, ◌∷◌, [], ◌++◌, MatchOption, IfSome, IfOk, OnOk, ◌≤◌, ◌<◌, length, drop};
 ghost use Rattle.sp_lex.specs.Views.{tokens_of};
-ghost use Rattle.sp_read_theory.specs.Items.{ReadsItem, NoItem, AreItemsToEnd, NoItems};
+ghost use Rattle.sp_read_lemmas.specs.Items.{ReadsItem};
+ghost use Rattle.sp_read_theory.specs.Items.{NoItem, AreItemsToEnd, NoItems};
 ghost use Rattle.sp_spec_text.specs.Spans.{AreSpans};
 ghost use Rattle.sp_read_theory.specs.Views as view;
 ghost use Rattle.sp_read_theory.specs.Views.{seen_from};
 
 use crate::declarations::declaration;
-use crate::lemmas::lemma;
 use sp_lex::Token;
+use sp_read_lemmas::lemmas::lemma;
 use sp_read_parts::cursor::behind;
 use sp_written::Item;
 use std::alloc::{AllocError, Global};

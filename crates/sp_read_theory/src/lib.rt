@@ -1,16 +1,13 @@
-// Reads theories: what they declare, rules, restrictions and lemmas in any order, lemmas with their attributes and their kind of trace, and the proofs
-// that stand below lemmas.
-// Below stand tokens (sp_lex), formulas (sp_read_formula), proofs (sp_read_proof), what theories list (sp_read_listings), and rules (sp_read_rules) as
-// they are read, and theories in memory (sp_written); what makes rules and formulas in memory of a theory stands above.
+// Reads theories: what they declare, rules, restrictions and lemmas with the proofs below them, in any order.
+// Below stand tokens (sp_lex), what theories list (sp_read_listings), rules (sp_read_rules), and lemmas and restrictions (sp_read_lemmas) as they are
+// read, and theories in memory (sp_written); what makes rules and formulas in memory of a theory stands above.
 // Carried here: the promise that texts are read exactly. What is read is what the text says by the grammar (sp_spec_text,
 // specs/Theories.antt), in its order, and what is not read says nothing. A theory is read with the spans of the proofs of its lemmas
 // (sp_spec_text, specs/Spans.antt), and the place where its text ends.
 #![tactic(auto)]
 
-mod attributes;
 mod declarations;
 mod items;
-mod lemmas;
 mod read;
 
 ghost use Rattle.sp_read_theory.specs.Laws.{TextsSayOneTheory};

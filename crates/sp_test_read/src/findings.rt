@@ -4,20 +4,22 @@ use sp_declared::equations::equations;
 use sp_declared::symbols::symbols;
 use sp_read_theory::read_theory;
 use sp_resolved::resolved;
-use sp_wf::report;
+use sp_wf::{fatal_lines, write_lines};
 use sp_wf_rules::bound_in;
 use std::alloc::Global;
 use std::test::Fail;
 
-/// The report on the theory of a text.
+/// The lines of the fatal findings on the theory of a text.
 fn report_on(alloc: Global, text: &[u8]) -> Result<Vec<u8>, Fail> {
     let read = read_theory(alloc, text)?.ok_or("read")?;
     let symbols = symbols(alloc, &read.items)?;
     let bound = bound_in(alloc, &read.items)?;
     let theory = resolved(alloc, &symbols, read)?;
     let equations = equations(alloc, &theory.items)?;
-    let lines = report(alloc, &symbols, &equations, &bound, &theory)?;
-    Ok(lines)
+    let lines = fatal_lines(alloc, &symbols, &equations, &bound, &theory)?;
+    let mut report = Vec::new(alloc);
+    write_lines(&mut report, &lines)?;
+    Ok(report)
 }
 
 /// Theories of one item, and their reports.

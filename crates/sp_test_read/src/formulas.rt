@@ -5,7 +5,7 @@ use sp_guard::guarded::is_guarded;
 use sp_guard::marks::checked_form;
 use sp_guard::negate::negate;
 use sp_guard::unguarded::first_unguarded;
-use sp_read_formula::bindings::bindings;
+use sp_read_atoms::bindings::bindings;
 use sp_read_formula::quoted::quoted_formula;
 use sp_read_parts::ReadFormula;
 use sp_test_make::texts::{formula_in, tokens_in};

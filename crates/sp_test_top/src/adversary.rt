@@ -206,16 +206,16 @@ static REFUSED: [(&str, &str); 3] = [
     // a finding is told first
     (
         "rule R: [ K(x) ] --> [ ]",
-        "fatal: rule R: reserved fact K\n",
+        "fatal: rule R: reserved fact K\nwarning: rule R: premise K/1 has no source\n",
     ),
     (
         "rule R: [ Out(x) ] --[ KD() ]-> [ In(x), !Out(x) ]",
-        "fatal: rule R: reserved fact Out\nfatal: rule R: reserved fact KD\nfatal: rule R: reserved fact In\n",
+        "fatal: rule R: reserved fact Out\nfatal: rule R: reserved fact KD\nfatal: rule R: reserved fact In\nwarning: rule R: premise Out/1 has no source\nwarning: fact Out has several arities or multiplicities\n",
     ),
     // nor may a rule take what is learnt
     (
         "rule R: [ KU('c') ] --> [ ]",
-        "fatal: rule R: reserved fact KU\n",
+        "fatal: rule R: reserved fact KU\nwarning: rule R: premise KU/1 has no source\n",
     ),
 ];
 

@@ -43,6 +43,37 @@ pub(crate) fn assert_answer(
     Ok(())
 }
 
+/// Asserts that this is answered to the words of a line about `text`.
+pub(crate) fn assert_line(
+    rt: &impl Abort,
+    alloc: Global,
+    line: &str,
+    text: &str,
+    status: u8,
+    answer: &str,
+) -> Result<(), Fail> {
+    let words = words_of(alloc, line)?;
+    let mut library = MemLibrary::new(alloc);
+    library.put("text", text.as_bytes())?;
+    let mut sink = MemSink::new(alloc, 100, 10_000)?;
+    let ended = run(alloc, &words, &mut library, &mut sink);
+    assert_eq!(rt; sink.written(), answer.as_bytes(), "{line} {text}");
+    assert_eq!(rt; ended as u8, status, "{line} {text}");
+    Ok(())
+}
+
+/// What is written to the words of a line about `text`.
+pub(crate) fn written_on(alloc: Global, line: &str, text: &str) -> Result<String, Fail> {
+    let words = words_of(alloc, line)?;
+    let mut library = MemLibrary::new(alloc);
+    library.put("text", text.as_bytes())?;
+    let mut sink = MemSink::new(alloc, 1_000, 100_000)?;
+    run(alloc, &words, &mut library, &mut sink);
+    let written = str::from_utf8(sink.written())?;
+    let copied = String::from_str(alloc, written)?;
+    Ok(copied)
+}
+
 /// What the command writes of the text.
 pub(crate) fn written_by(alloc: Global, command: &str, text: &str) -> Result<String, Fail> {
     let words = words_on_text(alloc, command)?;

@@ -19,6 +19,10 @@ mod executions;
 #[cfg(test)]
 mod forms;
 #[cfg(test)]
+mod generated;
+#[cfg(test)]
+mod graphs;
+#[cfg(test)]
 mod induction;
 #[cfg(test)]
 mod items;
@@ -44,3 +48,5 @@ mod steps;
 mod symbols;
 #[cfg(test)]
 mod variants;
+#[cfg(test)]
+mod warnings;

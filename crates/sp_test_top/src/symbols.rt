@@ -18,7 +18,7 @@ static REPORTED: [(&str, &str); 22] = [
     ),
     (
         "rule P: [ M(fst(x)) ] --> [ N(x) ]",
-        "fatal: rule P: destructor in a premise\n",
+        "fatal: rule P: destructor in a premise\nwarning: rule P: premise M/1 has no source\n",
     ),
     (
         "functions: f/1, f/2, g/1 [private], g/1, f/1",
@@ -35,7 +35,7 @@ static REPORTED: [(&str, &str); 22] = [
     ),
     (
         "functions: f/1 rule R: [ M(g(x, f(y, x))) ] --[ A(u{x, y}x) ]-> [ N(f(c())) ] lemma l: \"All x #i. A(pair(x))@i ==> v() = x\"",
-        "fatal: unknown symbol g/2\nfatal: unknown symbol f/2\nfatal: unknown symbol u/2\nfatal: unknown symbol c/0\nfatal: unknown symbol pair/1\nfatal: unknown symbol v/0\n",
+        "fatal: unknown symbol g/2\nfatal: unknown symbol f/2\nfatal: unknown symbol u/2\nfatal: unknown symbol c/0\nfatal: unknown symbol pair/1\nfatal: unknown symbol v/0\nwarning: rule R: premise M/1 has no source\n",
     ),
     (
         "functions: f/16, g/17, k/99999999999999999999",
@@ -78,7 +78,7 @@ static REPORTED: [(&str, &str); 22] = [
     ),
     (
         "lemma l: \"All x #i. A(x)@i ==> fst(x) = x\"",
-        "fatal: formula l: destructor\n",
+        "fatal: formula l: destructor\nwarning: formula l: action A/1 in no rule\n",
     ),
     // a constant isn't a variable, unless a quantifier binds it
     (
@@ -87,15 +87,15 @@ static REPORTED: [(&str, &str); 22] = [
     ),
     (
         "functions: f/1 rule R: [ M(f(x)) ] --[ A(f(~x), f(y)) ]-> [ ]",
-        "fatal: rule R: variable x has two sorts\nfatal: rule R: variable y not bound\n",
+        "fatal: rule R: variable x has two sorts\nfatal: rule R: variable y not bound\nwarning: rule R: premise M/1 has no source\n",
     ),
     (
         "functions: f/1 lemma l: \"All x #i. A(f(x), f(y))@i ==> F\" lemma m: \"All x #i. f(x) = x & A('a')@i ==> F\"",
-        "fatal: formula l: variable y not bound\nfatal: formula m: variable x not guarded\n",
+        "fatal: formula l: variable y not bound\nfatal: formula m: variable x not guarded\nwarning: formula l: action A/2 in no rule\nwarning: formula m: action A/1 in no rule\n",
     ),
     (
         "functions: f/1 lemma l: \"All x #i. A(f(x), f(i), f(~x))@i ==> F\"",
-        "fatal: formula l: variable x has another sort than its binder\nfatal: formula l: time and message mixed at i\n",
+        "fatal: formula l: variable x has another sort than its binder\nfatal: formula l: time and message mixed at i\nwarning: formula l: action A/3 in no rule\n",
     ),
 ];
 

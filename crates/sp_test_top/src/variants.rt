@@ -93,7 +93,7 @@ fn faults_are_told_in_place_of_forms(rt: HostRuntime) -> Result<(), Fail> {
         "variants",
         "theory V begin rule R: [ M(fst(x)) ] --> [ ] end",
         4,
-        "fatal: rule R: destructor in a premise\n",
+        "fatal: rule R: destructor in a premise\nwarning: rule R: premise M/1 has no source\n",
     )?;
     assert_answer(
         &rt,

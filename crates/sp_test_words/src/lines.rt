@@ -1,11 +1,11 @@
 // Lines of the command, and words that are none.
 
-use sp_words::read_request;
-use std::alloc::Global;
+use sp_words::{Text, read_request};
+use std::alloc::{AllocError, Global};
 use std::test::Fail;
 
-/// Words, with a blank between any two, and what they ask for: the command, FILE, the budget, and the lemma that is named.
-static LINES: [(&str, &str); 16] = [
+/// Words, with a blank between any two, and what they ask for: the command, FILE or N, the budget, and the lemma that is named.
+static LINES: [(&str, &str); 26] = [
     ("spthy prove x", "Prove x 10000 None"),
     ("spthy check x", "Check x 10000 None"),
     ("spthy replay x", "Replay x 10000 None"),
@@ -28,10 +28,20 @@ static LINES: [(&str, &str); 16] = [
         "spthy prove --budget=7 --lemma one -- x",
         "Prove x 7 Some(\"one\")",
     ),
+    ("spthy wf f", "Wf f 10000 None"),
+    ("spthy wf -- -f", "Wf -f 10000 None"),
+    ("spthy graph f --lemma x", "Graph f 10000 Some(\"x\")"),
+    ("spthy graph --lemma=x f", "Graph f 10000 Some(\"x\")"),
+    ("spthy gen 1", "Gen #1 10000 None"),
+    ("spthy gen 500", "Gen #500 10000 None"),
+    ("spthy gen 500 --budget 7", "Gen #500 7 None"),
+    ("spthy gen --budget=7 20", "Gen #20 7 None"),
+    ("spthy gen -- 20", "Gen #20 10000 None"),
+    ("spthy gen 20 --budget 1000000", "Gen #20 1000000 None"),
 ];
 
 /// Words that are no line.
-static OTHERS: [&str; 41] = [
+static OTHERS: [&str; 71] = [
     "",
     "spthy",
     "spthy look x",
@@ -73,6 +83,36 @@ static OTHERS: [&str; 41] = [
     "spthy prove --help",
     "spthy prove x -h",
     "spthy --version",
+    "spthy wf",
+    "spthy wf f g",
+    "spthy wf f --budget 1",
+    "spthy wf f --lemma x",
+    "spthy Wf f",
+    "spthy graph",
+    "spthy graph f",
+    "spthy graph f --lemma",
+    "spthy graph --lemma x",
+    "spthy graph f g --lemma x",
+    "spthy graph f --lemma x --budget 3",
+    "spthy graph f --lemma x --lemma y",
+    "spthy gen",
+    "spthy gen 0",
+    "spthy gen 501",
+    "spthy gen 05",
+    "spthy gen +5",
+    "spthy gen -5",
+    "spthy gen -- -5",
+    "spthy gen 5.0",
+    "spthy gen five",
+    "spthy gen 65537",
+    "spthy gen 18446744073709551617",
+    "spthy gen 2 3",
+    "spthy gen 2 --lemma x",
+    "spthy gen 2 --budget 0",
+    "spthy gen 2 --budget 1000001",
+    "spthy gen 2 --budget",
+    "spthy gen --budget 5",
+    "spthy gen --help",
 ];
 
 fn lines() -> &'static [(&'static str, &'static str)] {
@@ -83,6 +123,14 @@ fn others() -> &'static [&'static str] {
     &OTHERS
 }
 
+/// FILE, or the number behind a `#`.
+fn named(alloc: Global, text: Text<'_>) -> Result<String, AllocError> {
+    match text {
+        Text::File(name) => String::from_str(alloc, name),
+        Text::Made(number) => format!(in alloc; "#{number}"),
+    }
+}
+
 /// What is read from these words.
 fn told(alloc: Global, line: &str) -> Result<String, Fail> {
     let mut words = Vec::new(alloc);
@@ -90,10 +138,13 @@ fn told(alloc: Global, line: &str) -> Result<String, Fail> {
         words.push(word)?;
     }
     let answer = match read_request(alloc, words.as_slice()) {
-        Ok(request) => format!(in alloc;
-            "{:?} {} {} {:?}",
-            request.command, request.file, request.budget, request.lemma
-        )?,
+        Ok(request) => {
+            let text = named(alloc, request.text)?;
+            format!(in alloc;
+                "{:?} {text} {} {:?}",
+                request.command, request.budget, request.lemma
+            )?
+        }
         Err(cause) => format!(in alloc; "{cause}")?,
     };
     Ok(answer)

@@ -6,9 +6,11 @@ pub mod PlainNames
 pub mod PlainTexts
 pub mod PlainFindings
 pub mod PlainRules
+pub mod WholeLines
+pub mod Quiet
+pub mod PlainWarnings
 pub mod PlainReports
 pub mod EndStays
-pub mod WholeLines
 pub mod Told
 pub mod Headlines
 pub mod CutShort

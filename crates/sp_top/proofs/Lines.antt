@@ -4,7 +4,7 @@ use Rattle.sp_words.specs.Line as words
 use Rattle.sp_words.specs.declared.Request as memory
 use Rattle.sp_words.specs.declared.RequestError.{RequestError}
 use Rattle.sp_words.specs.declared.RequestError.TheVariants.{NoLine}
-use Rattle.sp_top.specs.Command.{Request, request_by, request_of, IsLine, IsNoLine}
+use Rattle.sp_top.specs.Command.{request_of, IsLine, IsNoLine}
 
 pub asks_this : (line : List (List ℕ)) (r : Result memory.Request RequestError) → IfOk r (λ q. words.IsLine line (words.request_of q)) → IfOk r (λ q. IsLine line (request_of q))
 asks_this line (Ok q) h = (words.request_of q, h, refl)

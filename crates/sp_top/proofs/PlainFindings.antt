@@ -1,4 +1,4 @@
--- No line of a report has an opening bracket, as each line of a verdict has.
+-- No line of a fatal finding has a closing bracket, as each line of a verdict has.
 use Rattle.std.proofs.Common.{◌≡◌, ℕ, zero, suc, ◌/◌, ◌%◌, ◌<◌, arith, Bool, true, false, cond, ◌==◌, List, [], ◌∷◌, ◌++◌, codes, Option, Some, None, refl}
 use Rattle.std.specs.Prelude.{decimal}
 use Rattle.std.specs.Fmt.{digit_glyph, digits_onto, digits}
@@ -27,7 +27,7 @@ use Rattle.sp_top.proofs.PlainTexts.{IsPlainRule, IsPlainSymbol, IsPlainEquation
 
 -- ---- the line of a finding
 
--- the names that it tells have no bracket
+-- the names that it tells have no closing bracket
 abbrev pub IsPlainFinding : Finding → Type 0
 IsPlainFinding (f.builtin_left_out b) = IsPlain b
 IsPlainFinding (f.declared_twice s) = IsPlain s
@@ -51,7 +51,7 @@ IsPlainFinding (f.mixed_at n x) = IsPlain n × IsPlain x
 IsPlainFinding (f.restricts_learning n) = IsPlain n
 IsPlainFinding (f.attribute_left_out n a) = IsPlain n × IsPlain a
 
-glyph_plain : (d : ℕ) → d < 10 → (digit_glyph false d == 40) ≡ false
+glyph_plain : (d : ℕ) → d < 10 → (digit_glyph false d == 41) ≡ false
 glyph_plain d h = grind (arith, nat_tests)
 
 plain_onto : (k n : ℕ) (acc : List ℕ) → IsPlain acc → IsPlain (digits_onto k 10 false n acc)
@@ -69,7 +69,7 @@ pub plain_number : (n : ℕ) → IsPlain (decimal n)
 unfolding digits
 plain_number n = plain_onto 64 n [] tt
 
-around : (front x behind : List ℕ) → IsPlain front → IsPlain x → IsPlain behind → IsPlain (front ++ (x ++ behind))
+pub around : (front x behind : List ℕ) → IsPlain front → IsPlain x → IsPlain behind → IsPlain (front ++ (x ++ behind))
 around front x behind h k l = plain_append front (x ++ behind) h (plain_append x behind k l)
 
 -- a name of a rule or a formula, and another behind it

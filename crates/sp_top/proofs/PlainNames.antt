@@ -1,4 +1,4 @@
--- No name in a text has an opening bracket: names are words, and a builtin's are joined by a dash.
+-- No name in a text has a closing bracket: names are words, and a builtin's are joined by a dash. Constants may have brackets, but no line feed.
 use Rattle.std.proofs.Common.{◌≡◌, ℕ, Bool, true, false, List, [], ◌∷◌, ◌++◌, codes, refl, sym, ap, ◌∙◌, true≢false}
 use Rattle.std.specs.Prelude.{◌==◌, ◌||◌}
 use Rattle.std.proofs.lemmas.Bool.{eqb-true, or_parts}
@@ -16,42 +16,43 @@ use Rattle.sp_spec_text.specs.Formulas.{SpellsVariable, SpellsTerm, SpellsTuple,
 use Rattle.sp_spec_text.specs.Theories.{SpellsQuoted}
 use Rattle.sp_law_printed_log.proofs.TokenWords.{Spoken, spoken_plain}
 use Rattle.sp_law_printed_log.proofs.WordSplits.{in_word, word_bytes}
+use Rattle.sp_law_printed_log.proofs.NoFeeds.{NoFeed, no_feed_quotable}
 use Rattle.sp_law_printed_log.proofs.SpelledNames.{Spelled, annotations_behind}
 
 -- ---- bytes
 
--- no byte of it is an opening bracket
+-- no byte of it is a closing bracket
 abbrev pub IsPlain : List ℕ → Type 0
-IsPlain bytes = Every (λ (b : ℕ). (b == 40) ≡ false) bytes
+IsPlain bytes = Every (λ (b : ℕ). (b == 41) ≡ false) bytes
 
 abbrev has_bracket : List ℕ → Bool
 has_bracket [] = false
-has_bracket (b ∷ bytes) = b == 40 || has_bracket bytes
+has_bracket (b ∷ bytes) = b == 41 || has_bracket bytes
 
 -- so that this is seen of words that are written out
 pub plain_in : (bytes : List ℕ) → has_bracket bytes ≡ false → IsPlain bytes
 plain_in [] h = tt
-plain_in (b ∷ bytes) h = let p = or_parts (b == 40) (has_bracket bytes) h in (p.0, plain_in bytes p.1)
+plain_in (b ∷ bytes) h = let p = or_parts (b == 41) (has_bracket bytes) h in (p.0, plain_in bytes p.1)
 
-plain_byte : (b : ℕ) → in_word b ≡ true → (b == 40) ≡ false
-plain_byte b h = by_test (b == 40) refl
+plain_byte : (b : ℕ) → in_word b ≡ true → (b == 41) ≡ false
+plain_byte b h = by_test (b == 41) refl
   where
-    by_test : (t : Bool) → (b == 40) ≡ t → t ≡ false
-    by_test true e = absurd (true≢false (sym h ∙ ap in_word (eqb-true b 40 e)))
+    by_test : (t : Bool) → (b == 41) ≡ t → t ≡ false
+    by_test true e = absurd (true≢false (sym h ∙ ap in_word (eqb-true b 41 e)))
     by_test false e = refl
 
 pub plain_word : (w : List ℕ) → IsWord w → IsPlain w
-plain_word w h = every_weaken (λ (b : ℕ). in_word b ≡ true) (λ (b : ℕ). (b == 40) ≡ false) plain_byte w (word_bytes w h)
+plain_word w h = every_weaken (λ (b : ℕ). in_word b ≡ true) (λ (b : ℕ). (b == 41) ≡ false) plain_byte w (word_bytes w h)
 
 pub plain_append : (xs ys : List ℕ) → IsPlain xs → IsPlain ys → IsPlain (xs ++ ys)
-plain_append xs ys h k = every_append (λ (b : ℕ). (b == 40) ≡ false) xs ys h k
+plain_append xs ys h k = every_append (λ (b : ℕ). (b == 41) ≡ false) xs ys h k
 
 -- ---- terms and facts
 
 abbrev mutual
   pub IsPlainTerm : Term Written → Type 0
   IsPlainTerm (var x) = IsPlain x.name
-  IsPlainTerm (constant c) = Unit {0}
+  IsPlainTerm (constant c) = NoFeed c
   IsPlainTerm (name n) = Unit {0}
   IsPlainTerm (app f ts) = IsPlain f × ArePlainTerms ts
 
@@ -75,7 +76,7 @@ variable_plain (g.sorted {w = w} n e) k = record { says = plain_word w k.0; behi
 
 mutual
   pub term_plain : {n : ℕ} {x : Term Written} {tokens rest : List Lexeme} → SpellsTerm n tokens x rest → Every Spoken tokens → Spelled (IsPlainTerm x) rest
-  term_plain g.fixed k = record { says = tt; behind = k.1 }
+  term_plain (g.fixed {c = c}) k = record { says = no_feed_quotable c k.0; behind = k.1 }
   term_plain (g.variable h) k = variable_plain h k
   term_plain (g.brackets within h) k = let t = term_plain h k.1 in record { says = t.says; behind = t.behind.1 }
   term_plain (g.tuple within h) k = tuple_plain h k.1

@@ -1,8 +1,8 @@
--- No report has an opening bracket: no name of an item has one.
-use Rattle.std.proofs.Common.{ℕ, Bool, true, false, cond, List, [], ◌∷◌, ◌++◌, codes, refl, sym, subst}
+-- Every report is quiet: no name of an item has a closing bracket, and no constant a line feed.
+use Rattle.std.proofs.Common.{ℕ, Bool, true, false, cond, List, [], ◌∷◌, ◌++◌, sym, subst}
 use Rattle.std.specs.List.{flat_map}
 use Rattle.sp_spec.specs.Lists.{Every, is_listed}
-use Rattle.sp_spec.proofs.Lists.{every_append, every_map}
+use Rattle.sp_spec.proofs.Lists.{every_append, every_map, every_weaken}
 use Rattle.sp_spec.specs.Signature.{Symbol, Equation}
 use Rattle.sp_spec.specs.Theory.{Lemma}
 use Rattle.sp_spec.specs.Written.{WrittenRule}
@@ -18,11 +18,14 @@ use Rattle.sp_wf_rules.specs.BindingFindings.{bound_in}
 use Rattle.sp_wf_formulas.specs.FormulaFindings.{wide_in_lemma}
 use Rattle.sp_wf_formulas.specs.Statements.{item_statements, statements_in}
 use Rattle.sp_wf.specs.ItemFindings.{unknown_in_items, on_rules, on_lemmas, on_items, wide_in_item, wide_in_items, names_of_rules, names_of_statements, told_again, repeated, findings_on_rules, findings_on_lemmas, learning_in_item, left_out_by, left_out_of, attributes_in_item}
-use Rattle.sp_wf.specs.Report.{findings_on_symbols, findings_on_statements, findings, text_of}
+use Rattle.sp_wf.specs.Report.{findings_on_symbols, findings_on_statements, findings, fatal_lines}
+use Rattle.sp_warn.specs.Warnings.{warning_lines}
 use Rattle.sp_pose.specs.Problem.{IsReported}
-use Rattle.sp_top.proofs.PlainNames.{IsPlain, plain_in, plain_append}
+use Rattle.sp_top.proofs.PlainNames.{IsPlain}
 use Rattle.sp_top.proofs.PlainTexts.{IsPlainRule, IsPlainSymbol, IsPlainLemma, IsPlainAttribute, IsPlainItem, written_plain, text_plain}
 use Rattle.sp_top.proofs.PlainFindings.{plain_line, ArePlain, both_plain, plain_told, on_items_plain, builtins_plain, left_out_plain, declared_plain, wide_symbols_plain, unknown_items_plain, equations_plain}
+use Rattle.sp_top.proofs.Quiet.{IsCalm, IsQuiet, quiet_plain, quiet_text}
+use Rattle.sp_top.proofs.PlainWarnings.{quiet_warnings}
 use Rattle.sp_top.proofs.PlainRules.{all_bound_plain, its_rules, names_again_plain, on_rules_plain, wide_rule_plain, rules_plain, on_lemmas_plain, wide_formula_plain, lemmas_plain}
 
 -- ---- what items say
@@ -156,10 +159,9 @@ lines_plain ls (x ∷ xs) h e = lines_plain (cond (is_listed (line x) ls) ls (ls
     by_test true = h
     by_test false = every_append IsPlain ls (line x ∷ []) h (plain_line x e.0, tt)
 
-text_of_plain : (ls : List (List ℕ)) → Every IsPlain ls → IsPlain (text_of ls)
-text_of_plain [] e = tt
-text_of_plain (l ∷ ls) e = plain_append l (codes "\n" ++ text_of ls) e.0 (plain_append (codes "\n") (text_of ls) (plain_in (codes "\n") refl) (text_of_plain ls e.1))
-
-pub report_plain : (bytes text : List ℕ) → IsReported bytes text → IsPlain text
-report_plain bytes text h =
-    subst IsPlain (sym h.lines_are) (text_of_plain (lines_after [] (findings h.theory)) (lines_plain [] (findings h.theory) tt (findings_plain h.theory (written_plain bytes h.theory h.says) (text_plain bytes h.theory h.says))))
+pub report_calm : (bytes text : List ℕ) → IsReported bytes text → IsCalm text
+report_calm bytes text h =
+    let t = h.theory in
+    let e = text_plain bytes t h.says in
+    let fatal : Every IsQuiet (fatal_lines t) = every_weaken IsPlain IsQuiet quiet_plain (fatal_lines t) (lines_plain [] (findings t) tt (findings_plain t (written_plain bytes t h.says) e)) in
+    subst IsCalm (sym h.lines_are) (quiet_text (fatal_lines t ++ warning_lines t) (every_append IsQuiet (fatal_lines t) (warning_lines t) fatal (quiet_warnings t e))).calm

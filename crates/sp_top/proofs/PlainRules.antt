@@ -1,4 +1,4 @@
--- No finding on rules, on restrictions or lemmas, or on names tells a name with an opening bracket.
+-- No finding on rules, on restrictions or lemmas, or on names tells a name with a closing bracket.
 use Rattle.std.proofs.Common.{ℕ, Bool, true, false, cond, List, [], ◌∷◌, ◌++◌, map, Option, Some, None}
 use Rattle.std.specs.Option.{option_or}
 use Rattle.std.specs.Str.{bytes_eq}
@@ -180,7 +180,7 @@ its_rules (rule_item bs r) h = (h.1, tt)
 its_rules (restriction_item r) h = tt
 its_rules (lemma_item l as' p) h = tt
 
-their_rules : (xs : List Item) → Every IsPlainItem xs → Every IsPlainRule (rules_written xs)
+pub their_rules : (xs : List Item) → Every IsPlainItem xs → Every IsPlainRule (rules_written xs)
 their_rules [] e = tt
 their_rules (x ∷ xs) e = every_append IsPlainRule (item_written x) (rules_written xs) (its_rules x e.0) (their_rules xs e.1)
 

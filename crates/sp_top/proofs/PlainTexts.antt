@@ -1,4 +1,4 @@
--- No name in what a text declares has an opening bracket, also where values stand for bound names and symbols for the names that are such.
+-- No name in what a text declares has a closing bracket, also where values stand for bound names and symbols for the names that are such.
 use Rattle.std.proofs.Common.{ℕ, Bool, true, false, cond, List, [], ◌∷◌, ◌++◌, map, codes, refl}
 use Rattle.std.specs.Prelude.{not, ◌&&◌, ◌||◌}
 use Rattle.std.specs.Str.{bytes_eq}
@@ -172,7 +172,7 @@ module _ (v : Written → Term Written) (h : (x : Written) → IsPlain x.name �
   mutual
     valued_plain : (x : Term Written) → IsPlainTerm x → IsPlainTerm (valued v x)
     valued_plain (var x) k = h x k
-    valued_plain (constant c) k = tt
+    valued_plain (constant c) k = k
     valued_plain (name n) k = tt
     valued_plain (app f ts) k = (k.0, all_valued_plain ts k.1)
 

@@ -3,20 +3,21 @@ use Rattle.std.proofs.Common.{◌≡◌, ◌≢◌, ◌⊎◌, ℕ, Bool, true, 
 use Rattle.std.specs.List.{list_any}
 use Rattle.sp_spec_text.specs.Written.{WrittenText}
 use Rattle.sp_pose.specs.Problem.{Poses}
-use Rattle.sp_pose.proofs.One.{not_posed}
+use Rattle.sp_pose.proofs.One.{not_posed, review_is_wrong, one_review, refused_or_reviewed}
 use Rattle.sp_analysis.specs.Analysis.{Outcome, IsAnalysis}
 use Rattle.sp_analysis.specs.Laws.{IsCheckedAgain}
 use Rattle.sp_analysis.specs.Replies.{LacksLemma}
 use Rattle.sp_spec_printed.specs.Verdict.{Verdict}
 use Rattle.sp_analysis.specs.Checking.{Judged}
 use Rattle.sp_words.specs.declared.Command.{Command}
-use Rattle.sp_words.specs.declared.Command.TheVariants.{Prove, Check, Replay, Variants}
+use Rattle.sp_words.specs.declared.Command.TheVariants.{Prove, Check, Replay, Variants, Wf, Graph, Gen}
 use Rattle.sp_analysis.proofs.Right.{verdicts_are_right_lem}
 use Rattle.sp_analysis.proofs.AnswersOne.{answers_are_one_lem}
 use Rattle.sp_analysis.proofs.Again.{written_is_checked_lem}
 use Rattle.sp_replay.proofs.One.{replies_are_one_lem}
 use Rattle.sp_rule_forms.proofs.One.{lists_are_one_lem}
-use Rattle.sp_top.specs.Answer.{IsRefusal, IsReport, IsAskedRefusal, IsDoneWith, IsRefusedWith, CommandAnswer, is_rejected, is_falsified, is_incomplete, status_of, verdicts_of, verdicts_on}
+use Rattle.sp_analysis.specs.Shown.{is_falsified, is_incomplete}
+use Rattle.sp_top.specs.Answer.{IsRefusal, IsTheoryRefusal, IsAskedRefusal, IsDoneWith, IsRefusedWith, CommandAnswer, is_rejected, status_of, verdicts_of, verdicts_on}
 use Rattle.sp_top.specs.Run.{HasVerdicts, DoneRightly}
 use Rattle.sp_top.specs.declared.Status.{Status}
 use Rattle.sp_top.specs.declared.Status.TheVariants.{Fine, Falsified, Incomplete, Rejected, Refused, Usage, ReadFault, WriteFault, NoMemory, TooLong}
@@ -74,16 +75,31 @@ done_status Check budget chosen bytes text status a = subst HasVerdicts (sym a.s
 done_status Replay budget chosen bytes text status (inl s) = subst HasVerdicts (sym s.status_is) (inr (inr (inr refl)))
 done_status Replay budget chosen bytes text status (inr r) = subst HasVerdicts (sym r.status_is) (inl refl)
 done_status Variants budget chosen bytes text status r = subst HasVerdicts (sym r.status_is) (inl refl)
+done_status Wf budget chosen bytes text status r = subst HasVerdicts (sym r.status_is) (inl refl)
+done_status Graph budget chosen bytes text status a = subst HasVerdicts (sym a.status_is) (status_of_verdicts (verdicts_of a.outcomes))
+done_status Gen budget chosen bytes text status a = subst HasVerdicts (sym a.status_is) (status_of_verdicts (verdicts_of a.outcomes))
 
 asked_refused : (command : Command) (chosen : Option (List ℕ)) (bytes text : List ℕ) (status : Status) → IsAskedRefusal command chosen bytes text status → status ≡ Refused
 asked_refused Prove chosen bytes text status r = r.status_is
 asked_refused Check chosen bytes text status r = r.status_is
 asked_refused Replay chosen bytes text status r = r.status_is
 asked_refused Variants chosen bytes text status r = absurd r
+asked_refused Wf chosen bytes text status r = absurd r
+asked_refused Graph chosen bytes text status r = r.status_is
+asked_refused Gen chosen bytes text status r = r.status_is
+
+theory_refused : (command : Command) (bytes text : List ℕ) (status : Status) → IsTheoryRefusal command bytes text status → status ≡ Refused
+theory_refused Prove bytes text status r = r.status_is
+theory_refused Check bytes text status r = r.status_is
+theory_refused Replay bytes text status r = r.status_is
+theory_refused Variants bytes text status r = r.status_is
+theory_refused Wf bytes text status r = r.status_is
+theory_refused Graph bytes text status r = r.status_is
+theory_refused Gen bytes text status r = r.status_is
 
 refused_with : (command : Command) (chosen : Option (List ℕ)) (bytes text : List ℕ) (status : Status) → IsRefusedWith command chosen bytes text status → status ≡ Refused
 refused_with command chosen bytes text status (inl r) = r.status_is
-refused_with command chosen bytes text status (inr (inl r)) = r.status_is
+refused_with command chosen bytes text status (inr (inl r)) = theory_refused command bytes text status r
 refused_with command chosen bytes text status (inr (inr r)) = asked_refused command chosen bytes text status r
 
 pub text_status : (command : Command) (budget : ℕ) (chosen : Option (List ℕ)) (bytes text : List ℕ) (status : Status) → CommandAnswer command budget chosen bytes text status → IsTextStatus status
@@ -97,13 +113,19 @@ no_text_done Check budget chosen bytes text other status another r a = answers_a
 no_text_done Replay budget chosen bytes text other status another r (inl s) = replies_are_one_lem.refused_or_stopped bytes r.place s.number s.cause r.refused s.stopped
 no_text_done Replay budget chosen bytes text other status another r (inr a) = replies_are_one_lem.refused_or_done bytes other r.place r.refused a.replay
 no_text_done Variants budget chosen bytes text other status another r a = lists_are_one_lem.refused_or_listed bytes other r.place r.refused a.listed
+no_text_done Wf budget chosen bytes text other status another r a = refused_or_reviewed r.refused a.reviewed
+no_text_done Graph budget chosen bytes text other status another r a = answers_are_one_lem.no_analysis budget chosen bytes a.analysed r.place a.outcomes r.refused a.analysis
+no_text_done Gen budget chosen bytes text other status another r a = answers_are_one_lem.no_analysis budget chosen bytes a.analysed r.place a.outcomes r.refused a.analysis
 
-reported_done : (command : Command) (budget : ℕ) (chosen : Option (List ℕ)) (bytes text other : List ℕ) (status another : Status) → IsReport bytes text status → IsDoneWith command budget chosen bytes other another → ⊥
+reported_done : (command : Command) (budget : ℕ) (chosen : Option (List ℕ)) (bytes text other : List ℕ) (status another : Status) → IsTheoryRefusal command bytes text status → IsDoneWith command budget chosen bytes other another → ⊥
 reported_done Prove budget chosen bytes text other status another r a = answers_are_one_lem.not_analysed budget chosen bytes text other a.outcomes r.report a.analysis
 reported_done Check budget chosen bytes text other status another r a = answers_are_one_lem.not_checked chosen bytes text other a.judged r.report a.checking
 reported_done Replay budget chosen bytes text other status another r (inl s) = replies_are_one_lem.reported_or_stopped bytes text s.number s.cause r.report s.stopped
 reported_done Replay budget chosen bytes text other status another r (inr a) = replies_are_one_lem.reported_or_done bytes text other r.report a.replay
 reported_done Variants budget chosen bytes text other status another r a = lists_are_one_lem.reported_or_listed bytes text other r.report a.listed
+reported_done Wf budget chosen bytes text other status another r a = let e : true ≡ false = (one_review a.reviewed r.reviewed).1 in cc
+reported_done Graph budget chosen bytes text other status another r a = answers_are_one_lem.not_analysed budget chosen bytes text a.analysed a.outcomes r.report a.analysis
+reported_done Gen budget chosen bytes text other status another r a = answers_are_one_lem.not_analysed budget chosen bytes text a.analysed a.outcomes r.report a.analysis
 
 asked_done : (command : Command) (budget : ℕ) (chosen : Option (List ℕ)) (bytes text other : List ℕ) (status another : Status) → IsAskedRefusal command chosen bytes text status
     → IsDoneWith command budget chosen bytes other another → ⊥
@@ -112,6 +134,9 @@ asked_done Check budget chosen bytes text other status another r a = answers_are
 asked_done Replay budget chosen bytes text other status another r (inl s) = replies_are_one_lem.stopped_or_unread bytes s.number r.number s.cause s.stopped r.unread
 asked_done Replay budget chosen bytes text other status another r (inr a) = replies_are_one_lem.done_or_unread bytes other r.number a.replay r.unread
 asked_done Variants budget chosen bytes text other status another r a = absurd r
+asked_done Wf budget chosen bytes text other status another r a = absurd r
+asked_done Graph budget chosen bytes text other status another r a = answers_are_one_lem.analysed_or_lacking budget chosen bytes a.analysed a.outcomes a.analysis r.lacks
+asked_done Gen budget chosen bytes text other status another r a = answers_are_one_lem.analysed_or_lacking budget chosen bytes a.analysed a.outcomes a.analysis r.lacks
 
 refused_or_done : (command : Command) (budget : ℕ) (chosen : Option (List ℕ)) (bytes text other : List ℕ) (status another : Status) → IsRefusedWith command chosen bytes text status → IsDoneWith command budget chosen bytes other another → ⊥
 refused_or_done command budget chosen bytes text other status another (inl r) a = no_text_done command budget chosen bytes text other status another r a
@@ -126,6 +151,13 @@ done_is_one Check budget chosen bytes text other status another a b =
     let same = (answers_are_one_lem.one_check chosen bytes other text b.judged a.judged b.checking a.checking).1 in
     b.status_is ∙ ap (λ (js : List Judged). status_of (verdicts_on js)) same ∙ sym a.status_is
 done_is_one Variants budget chosen bytes text other status another a b = b.status_is ∙ sym a.status_is
+done_is_one Wf budget chosen bytes text other status another a b = b.status_is ∙ sym a.status_is
+done_is_one Graph budget chosen bytes text other status another a b =
+    let same = (answers_are_one_lem.one budget chosen bytes b.analysed a.analysed b.outcomes a.outcomes b.analysis a.analysis).1 in
+    b.status_is ∙ ap (λ (os : List Outcome). status_of (verdicts_of os)) same ∙ sym a.status_is
+done_is_one Gen budget chosen bytes text other status another a b =
+    let same = (answers_are_one_lem.one budget chosen bytes b.analysed a.analysed b.outcomes a.outcomes b.analysis a.analysis).1 in
+    b.status_is ∙ ap (λ (os : List Outcome). status_of (verdicts_of os)) same ∙ sym a.status_is
 done_is_one Replay budget chosen bytes text other status another (inl s) (inl t) = t.status_is ∙ sym s.status_is
 done_is_one Replay budget chosen bytes text other status another (inl s) (inr b) = absurd (replies_are_one_lem.done_or_stopped bytes other s.number s.cause b.replay s.stopped)
 done_is_one Replay budget chosen bytes text other status another (inr a) (inl t) = absurd (replies_are_one_lem.done_or_stopped bytes text t.number t.cause a.replay t.stopped)
@@ -144,12 +176,25 @@ why_asked Prove chosen bytes text status r = inr r.lacks
 why_asked Check chosen bytes text status r = inr r.lacks
 why_asked Replay chosen bytes text status r = inl refl
 why_asked Variants chosen bytes text status r = absurd r
+why_asked Wf chosen bytes text status r = absurd r
+why_asked Graph chosen bytes text status r = inr r.lacks
+why_asked Gen chosen bytes text status r = inr r.lacks
+
+-- a text that poses a theory isn't refused for what stands in that
+theory_posed : (command : Command) (bytes text : List ℕ) (status : Status) (theory : WrittenText) → Poses bytes theory → IsTheoryRefusal command bytes text status → ⊥
+theory_posed Prove bytes text status theory posing r = not_posed r.report posing
+theory_posed Check bytes text status theory posing r = not_posed r.report posing
+theory_posed Replay bytes text status theory posing r = not_posed r.report posing
+theory_posed Variants bytes text status theory posing r = not_posed r.report posing
+theory_posed Wf bytes text status theory posing r = review_is_wrong r.reviewed posing
+theory_posed Graph bytes text status theory posing r = not_posed r.report posing
+theory_posed Gen bytes text status theory posing r = not_posed r.report posing
 
 -- a text that poses a theory is refused where a line of it is, or where it lacks the lemma that is named
 pub why_refused : (command : Command) (budget : ℕ) (chosen : Option (List ℕ)) (bytes text : List ℕ) (status : Status) (theory : WrittenText) → Poses bytes theory → CommandAnswer command budget chosen bytes text status → status ≡ Refused
     → (command ≡ Replay) ⊎ LacksLemma chosen bytes
 why_refused command budget chosen bytes text status theory posing (inl (inl r)) e = absurd (r.refused.nothing.none theory posing.says)
-why_refused command budget chosen bytes text status theory posing (inl (inr (inl r))) e = absurd (not_posed r.report posing)
+why_refused command budget chosen bytes text status theory posing (inl (inr (inl r))) e = absurd (theory_posed command bytes text status theory posing r)
 why_refused command budget chosen bytes text status theory posing (inl (inr (inr r))) e = why_asked command chosen bytes text status r
 why_refused command budget chosen bytes text status theory posing (inr a) e = absurd (verdicts_or_refused status (done_status command budget chosen bytes text status a) e)
 
@@ -182,3 +227,20 @@ done_rightly Check budget chosen bytes text status a = record {
 }
 done_rightly Replay budget chosen bytes text status a = a
 done_rightly Variants budget chosen bytes text status a = a
+done_rightly Wf budget chosen bytes text status a = a
+done_rightly Graph budget chosen bytes text status a = record {
+  outcomes = a.outcomes;
+  analysed = a.analysed;
+  analysis = a.analysis;
+  status_is = a.status_is;
+  right = verdicts_are_right_lem.right budget chosen bytes a.analysed a.outcomes a.analysis;
+  answer_is = a.text_is;
+}
+done_rightly Gen budget chosen bytes text status a = record {
+  outcomes = a.outcomes;
+  analysed = a.analysed;
+  analysis = a.analysis;
+  status_is = a.status_is;
+  right = verdicts_are_right_lem.right budget chosen bytes a.analysed a.outcomes a.analysis;
+  answer_is = a.text_is;
+}

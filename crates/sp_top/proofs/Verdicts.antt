@@ -5,13 +5,14 @@ use Rattle.sp_spec.specs.Written.{theory_of}
 use Rattle.sp_spec_text.specs.Declared.{theory_in}
 use Rattle.sp_io.specs.Told.{extended}
 use Rattle.sp_analysis.specs.Analysis.{summary}
+use Rattle.sp_top.specs.Command as command
 use Rattle.sp_top.specs.Command.{Request, IsAbout, IsLine}
 use Rattle.sp_top.specs.Headline.{LinesAreTrue, Tells, VerdictsAreTrue}
 use Rattle.sp_top.specs.Run.{TriedRightly, DoneRightly, HasVerdicts, VerdictsHold, WritesPrefix}
 use Rattle.sp_top.specs.declared.Status.{Status}
 use Rattle.sp_words.specs.declared.Command.{Command}
-use Rattle.sp_words.specs.declared.Command.TheVariants.{Prove, Check, Replay, Variants}
-use Rattle.sp_top.proofs.Causes.{line_asks_one, about_one}
+use Rattle.sp_words.specs.declared.Command.TheVariants.{Prove, Check, Replay, Variants, Wf, Graph, Gen}
+use Rattle.sp_top.proofs.Causes.{line_asks_one, told_about}
 use Rattle.sp_top.proofs.Headlines.{tried_true, checked_true}
 use Rattle.sp_top.proofs.CutShort.{cut_true}
 
@@ -20,6 +21,9 @@ done_true Prove budget chosen bytes text told status r t = tried_true budget cho
 done_true Check budget chosen bytes text told status r t = subst (LinesAreTrue bytes) (sym t) (checked_true chosen bytes text status r)
 done_true Replay budget chosen bytes text told status r t = absurd t
 done_true Variants budget chosen bytes text told status r t = absurd t
+done_true Wf budget chosen bytes text told status r t = absurd t
+done_true Graph budget chosen bytes text told status r t = absurd t
+done_true Gen budget chosen bytes text told status r t = absurd t
 
 module _ (words : List (List ℕ)) (holds : List ℕ → Option (Option (List ℕ))) (before now : ℕ) (old new : Option (List ℕ)) (status : Status) (h : VerdictsHold words holds before now old new status) where
   stands_written : (request : Request) (file bytes front written : List ℕ) → IsLine words request → IsAbout request file → holds file ≡ Some (Some bytes) → old ≡ Some front
@@ -28,8 +32,8 @@ module _ (words : List (List ℕ)) (holds : List ℕ → Option (Option (List �
       let w = h.whole verdicts in
       let right = w.1 in
       let one = line_asks_one words right.request request right.line line in
-      let name = about_one right.request request right.file file one right.about about in
-      let agrees : Some right.bytes ≡ Some bytes = sym (right.text.1 (Some bytes) (ap holds name ∙ told)) in
+      let telling = ap (λ (r : Request). command.told holds r) one ∙ told_about holds request file about ∙ told in
+      let agrees : Some right.bytes ≡ Some bytes = sym (right.text.1 (Some bytes) telling) in
       let same_bytes : right.bytes ≡ bytes = cc in
       let whole : Some (front ++ w.0) ≡ Some (front ++ written) = ap (λ (o : Option (List ℕ)). extended o w.0) (sym was) ∙ sym w.2 ∙ is in
       let same_text : w.0 ≡ written = append_cancel_left front w.0 written cc in

@@ -1,16 +1,13 @@
--- Whole lines of what stands written are lines of all that was to be written; and a line of a verdict has an opening bracket.
-use Rattle.std.proofs.Common.{◌≡◌, ℕ, zero, suc, Bool, true, false, cond, List, [], ◌∷◌, ◌++◌, take, drop, refl, sym, ap, subst, ◌∙◌}
+-- Whole lines of what stands written are lines of all that was to be written, and a line feed stands behind each.
+use Rattle.std.proofs.Common.{◌≡◌, ℕ, Bool, true, false, cond, List, [], ◌∷◌, ◌++◌, refl, sym, ap, ◌∙◌}
 use Rattle.std.specs.Prelude.{◌==◌}
 use Rattle.std.proofs.lemmas.Bool.{eqb-true}
-use Rattle.sp_spec.specs.Lists.{Every}
-use Rattle.sp_spec.proofs.Lists.{every_parts}
 use Rattle.sp_spec_text.specs.Blanks.{onto_first, lines}
-use Rattle.sp_top.proofs.PlainNames.{IsPlain}
 
 -- ---- whole lines stay
 
 -- a text has a first line
-some_line : (xs : List ℕ) → (first : List ℕ) × (others : List (List ℕ)) × (lines xs ≡ first ∷ others)
+pub some_line : (xs : List ℕ) → (first : List ℕ) × (others : List (List ℕ)) × (lines xs ≡ first ∷ others)
 unfolding lines
 some_line [] = ([], [], refl)
 some_line (b ∷ xs) = at (b == 10) (some_line xs)
@@ -83,32 +80,3 @@ feed_in (b ∷ xs) above line next below e = at (b == 10) refl above e (feed_in 
         let o : s.1 ≡ above ++ line ∷ next ∷ below = cc in
         let k = h (s.0 ∷ above) line next below (s.2 ∙ ap (λ (ls : List (List ℕ)). s.0 ∷ ls) o) in
         feed_later b xs k
-
--- ---- texts without brackets
-
--- each line of it has none
-pub lines_plain : (xs : List ℕ) → IsPlain xs → Every IsPlain (lines xs)
-unfolding lines
-lines_plain [] h = (tt, tt)
-lines_plain (b ∷ xs) h = at (b == 10) (lines xs) (lines_plain xs h.1)
-  where
-    at : (t : Bool) (ls : List (List ℕ)) → Every IsPlain ls → Every IsPlain (cond t ([] ∷ ls) (onto_first b ls))
-    at true ls e = (tt, e)
-    at false [] e = ((h.0, tt), tt)
-    at false (l ∷ ls) e = ((h.0, e.0), e.1)
-
-pub no_bracket_line : (xs : List ℕ) → IsPlain xs → (above : List (List ℕ)) (name rest : List ℕ) (below : List (List ℕ)) → lines xs ≡ above ++ (name ++ 32 ∷ 40 ∷ rest) ∷ below → ⊥
-no_bracket_line xs h above name rest below e =
-    let each = (every_parts IsPlain above ((name ++ 32 ∷ 40 ∷ rest) ∷ below) (subst (Every IsPlain) e (lines_plain xs h))).1.0 in
-    let none : true ≡ false = (every_parts (λ (b : ℕ). (b == 40) ≡ false) name (32 ∷ 40 ∷ rest) each).1.1.0 in
-    cc
-
-pub plain_first : (n : ℕ) (xs : List ℕ) → IsPlain xs → IsPlain (take n xs)
-plain_first zero xs h = tt
-plain_first (suc n) [] h = tt
-plain_first (suc n) (b ∷ xs) h = (h.0, plain_first n xs h.1)
-
-pub plain_behind : (n : ℕ) (xs : List ℕ) → IsPlain xs → IsPlain (drop n xs)
-plain_behind zero xs h = h
-plain_behind (suc n) [] h = tt
-plain_behind (suc n) (b ∷ xs) h = plain_behind n xs h.1

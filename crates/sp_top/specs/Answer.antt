@@ -3,23 +3,26 @@ use Rattle.std.specs.Prelude.{◌≡◌, ◌⊎◌, ◌≤◌, ◌<◌, ℕ, suc
 use Rattle.std.specs.List.{list_any}
 use Rattle.std.specs.Option.{ForSome}
 use Rattle.sp_io.specs.Told.{Rose}
-use Rattle.sp_top.specs.Command.{Request, IsAbout, IsLine, IsNoLine}
+use Rattle.sp_top.specs.Command.{Request, IsAbout, told, IsLine, IsNoLine}
 use Rattle.sp_top.specs.declared.Status.{Status}
 use Rattle.sp_top.specs.declared.Status.TheVariants.{Fine, Falsified, Incomplete, Rejected, Refused, Usage, ReadFault, TooLong}
 use Rattle.sp_top.specs.declared.Wanted.{Wanted}
 use Rattle.sp_top.specs.declared.Wanted.TheVariants as wanted
 use Rattle.sp_place.specs.Refused.{IsRefusedAt}
-use Rattle.sp_pose.specs.Problem.{IsReported}
+use Rattle.sp_pose.specs.Problem.{IsReported, IsReviewed}
 use Rattle.sp_spec_printed.specs.Verdict.{Verdict, verified, falsified, incomplete, rejected}
 use Rattle.sp_analysis.specs.Analysis.{Outcome, IsAnalysis}
+use Rattle.sp_analysis.specs.Shown.{graphs, counts, is_falsified, is_incomplete}
 use Rattle.sp_analysis.specs.Checking.{Judged, IsChecking}
 use Rattle.sp_analysis.specs.Replies.{LacksLemma}
 use Rattle.sp_spec.specs.Execution.{Cause}
+use Rattle.sp_spec.specs.Written.{theory_of}
+use Rattle.sp_spec_text.specs.Declared.{theory_in}
 use Rattle.sp_exec.specs.Replay.{rank}
 use Rattle.sp_replay.specs.Replay.{IsUnread, IsStopped, IsReplay}
 use Rattle.sp_rule_forms.specs.Variants.{IsListed}
 use Rattle.sp_words.specs.declared.Command.{Command}
-use Rattle.sp_words.specs.declared.Command.TheVariants.{Prove, Check, Replay, Variants}
+use Rattle.sp_words.specs.declared.Command.TheVariants.{Prove, Check, Replay, Variants, Wf, Graph, Gen}
 
 -- how many bytes a text may have
 abbrev pub text_limit : ℕ
@@ -36,18 +39,6 @@ pub record IsRefusal (bytes text : List ℕ) (status : Status) : Type 0 where
 pub record IsReport (bytes text : List ℕ) (status : Status) : Type 0 where
   pub report : IsReported bytes text
   pub status_is : status ≡ Refused
-
-abbrev pub is_falsified : Verdict → Bool
-is_falsified verified = false
-is_falsified falsified = true
-is_falsified incomplete = false
-is_falsified (rejected step clause) = false
-
-abbrev pub is_incomplete : Verdict → Bool
-is_incomplete verified = false
-is_incomplete falsified = false
-is_incomplete incomplete = true
-is_incomplete (rejected step clause) = false
 
 abbrev pub is_rejected : Verdict → Bool
 is_rejected verified = false
@@ -76,6 +67,22 @@ verdicts_on js = map (λ (j : Judged). j.verdict) js
 pub record IsTried (budget : ℕ) (chosen : Option (List ℕ)) (bytes text : List ℕ) (status : Status) : Type 0 where
   pub outcomes : List Outcome
   pub analysis : IsAnalysis budget chosen bytes text outcomes
+  pub status_is : status ≡ status_of (verdicts_of outcomes)
+
+-- of each lemma that was tried, or of the one that is named, the graph of the log that was found
+pub record IsPictured (budget : ℕ) (chosen : Option (List ℕ)) (bytes text : List ℕ) (status : Status) : Type 0 where
+  pub outcomes : List Outcome
+  pub analysed : List ℕ
+  pub analysis : IsAnalysis budget chosen bytes analysed outcomes
+  pub text_is : text ≡ graphs (theory_of (theory_in analysis.theory)) outcomes
+  pub status_is : status ≡ status_of (verdicts_of outcomes)
+
+-- how many lemmas were tried, and how many verdicts there are of each kind
+pub record IsCounted (budget : ℕ) (chosen : Option (List ℕ)) (bytes text : List ℕ) (status : Status) : Type 0 where
+  pub outcomes : List Outcome
+  pub analysed : List ℕ
+  pub analysis : IsAnalysis budget chosen bytes analysed outcomes
+  pub text_is : text ≡ counts outcomes
   pub status_is : status ≡ status_of (verdicts_of outcomes)
 
 -- what is said of each lemma, or of the one that is named, by the proof that stands below it
@@ -117,11 +124,24 @@ pub record HasVariants (bytes text : List ℕ) (status : Status) : Type 0 where
   pub listed : IsListed bytes text
   pub status_is : status ≡ Fine
 
+-- the text says a theory without fatal findings: its warnings, and how many there are
+pub record IsFineReview (bytes text : List ℕ) (status : Status) : Type 0 where
+  pub reviewed : IsReviewed bytes text true
+  pub status_is : status ≡ Fine
+
+-- the text says a theory with fatal findings: these, its warnings, and how many there are
+pub record IsReviewRefusal (bytes text : List ℕ) (status : Status) : Type 0 where
+  pub reviewed : IsReviewed bytes text false
+  pub status_is : status ≡ Refused
+
 abbrev pub IsDoneWith : Command → ℕ → Option (List ℕ) → List ℕ → List ℕ → Status → Type 0
 IsDoneWith Prove budget chosen bytes text status = IsTried budget chosen bytes text status
 IsDoneWith Check budget chosen bytes text status = IsChecked chosen bytes text status
 IsDoneWith Replay budget chosen bytes text status = IsStepRefusal bytes text status ⊎ IsReplayed bytes text status
 IsDoneWith Variants budget chosen bytes text status = HasVariants bytes text status
+IsDoneWith Wf budget chosen bytes text status = IsFineReview bytes text status
+IsDoneWith Graph budget chosen bytes text status = IsPictured budget chosen bytes text status
+IsDoneWith Gen budget chosen bytes text status = IsCounted budget chosen bytes text status
 
 -- what is asked of the text is refused: the name of the lemma that alone is meant, or a line that is to be replayed
 abbrev pub IsAskedRefusal : Command → Option (List ℕ) → List ℕ → List ℕ → Status → Type 0
@@ -129,10 +149,18 @@ IsAskedRefusal Prove chosen bytes text status = IsLemmaRefusal chosen bytes text
 IsAskedRefusal Check chosen bytes text status = IsLemmaRefusal chosen bytes text status
 IsAskedRefusal Replay chosen bytes text status = IsLineRefusal bytes text status
 IsAskedRefusal Variants chosen bytes text status = ⊥
+IsAskedRefusal Wf chosen bytes text status = ⊥
+IsAskedRefusal Graph chosen bytes text status = IsLemmaRefusal chosen bytes text status
+IsAskedRefusal Gen chosen bytes text status = IsLemmaRefusal chosen bytes text status
+
+-- a theory with fatal findings is refused by its report; `wf` tells how many lines that has, too
+abbrev pub IsTheoryRefusal : Command → List ℕ → List ℕ → Status → Type 0
+IsTheoryRefusal Wf bytes text status = IsReviewRefusal bytes text status
+IsTheoryRefusal command bytes text status = IsReport bytes text status
 
 -- the text is refused, its theory, or what is asked of it
 abbrev pub IsRefusedWith : Command → Option (List ℕ) → List ℕ → List ℕ → Status → Type 0
-IsRefusedWith command chosen bytes text status = IsRefusal bytes text status ⊎ IsReport bytes text status ⊎ IsAskedRefusal command chosen bytes text status
+IsRefusedWith command chosen bytes text status = IsRefusal bytes text status ⊎ IsTheoryRefusal command bytes text status ⊎ IsAskedRefusal command chosen bytes text status
 
 -- what the command answers to the bytes of a text, within so many moves, and of the lemma that is named, if one is
 abbrev pub CommandAnswer : Command → ℕ → Option (List ℕ) → List ℕ → List ℕ → Status → Type 0
@@ -156,8 +184,10 @@ pub record IsUsage (words : List (List ℕ)) (text : List ℕ) (status : Status)
   pub text_is : text ≡ codes "refused: usage\n"
   pub status_is : status ≡ Usage
 
--- the library's count of faults rose, or it tells that it holds nothing under the name
-pub record IsReadFault (told : Option (Option (List ℕ))) (before now : ℕ) (text : List ℕ) (status : Status) : Type 0 where
+-- a text is fetched, and the library's count of faults rose, or it tells that it holds nothing under the name
+pub record IsReadFault (request : Request) (told : Option (Option (List ℕ))) (before now : ℕ) (text : List ℕ) (status : Status) : Type 0 where
+  pub file : List ℕ
+  pub about : IsAbout request file
   pub cause : Rose before now ⊎ (told ≡ Some None)
   pub text_is : text ≡ codes "refused: read fault\n"
   pub status_is : status ≡ ReadFault
@@ -176,15 +206,13 @@ pub record IsTextAnswer (request : Request) (told : Option (Option (List ℕ))) 
 
 -- what is answered, by what is told of the text that was asked for and the library's count of faults before and now
 abbrev pub IsFileAnswer : Request → Option (Option (List ℕ)) → ℕ → ℕ → List ℕ → Status → Type 0
-IsFileAnswer request told before now text status = IsReadFault told before now text status ⊎ IsTooLong told text status ⊎ IsTextAnswer request told text status
+IsFileAnswer request told before now text status = IsReadFault request told before now text status ⊎ IsTooLong told text status ⊎ IsTextAnswer request told text status
 
 -- the answer to a line of the command
 pub record IsLineAnswer (words : List (List ℕ)) (holds : List ℕ → Option (Option (List ℕ))) (before now : ℕ) (text : List ℕ) (status : Status) : Type 0 where
   pub request : Request
   pub line : IsLine words request
-  pub file : List ℕ
-  pub about : IsAbout request file
-  pub answer : IsFileAnswer request (holds file) before now text status
+  pub answer : IsFileAnswer request (told holds request) before now text status
 
 -- the whole answer to the words
 abbrev pub IsAnswer : List (List ℕ) → (List ℕ → Option (Option (List ℕ))) → ℕ → ℕ → List ℕ → Status → Type 0

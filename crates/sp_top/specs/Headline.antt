@@ -20,7 +20,7 @@ use Rattle.sp_top.specs.Run.{HasVerdicts}
 use Rattle.sp_top.specs.declared.Status.{Status}
 use Rattle.sp_top.specs.declared.Status.TheVariants.{WriteFault}
 use Rattle.sp_words.specs.declared.Command.{Command}
-use Rattle.sp_words.specs.declared.Command.TheVariants.{Prove, Check, Replay, Variants}
+use Rattle.sp_words.specs.declared.Command.TheVariants.{Prove, Check}
 
 -- the line is one of the text, and these stand below it
 pub record IsLineAbove (text line : List ℕ) (below : List (List ℕ)) : Type 0 where
@@ -112,8 +112,7 @@ pub record WholeLinesAreTrue (bytes told : List ℕ) : Type 0 where
 abbrev pub Tells : Command → List ℕ → List ℕ → Type 0
 Tells Prove written told = IsBehindEnd written told
 Tells Check written told = told ≡ written
-Tells Replay written told = ⊥
-Tells Variants written told = ⊥
+Tells command written told = ⊥
 
 -- A lemma that is named is named by a word, as each lemma of a text is.
 abbrev pub NamesByWord : Request → Type 0

@@ -1,11 +1,11 @@
 // The top call: from the words of a command to the text that is written and the status.
 // Below stand what tries the lemmas of a text or checks their proofs (sp_analysis), what replays the steps behind it (sp_replay), what lists its rules'
-// forms (sp_rule_forms), and the library that texts come from and the sink that answers go to (sp_io). The program stands above and only makes the words, the library and the sink.
+// forms (sp_rule_forms), what makes a theory of a number (sp_generated), and the library that texts come from and the sink that answers go to (sp_io). The program stands above and only makes the words, the library and the sink.
 // It promises that what is written of each lemma is so, that each status comes by its cause alone, that what is written is the whole
 // answer or, after a fault of the sink, a prefix of that very answer, and that what is fetched is what the words ask for.
 #![tactic(auto)]
 
-ghost use Rattle.std.specs.Prelude.{◌≡◌, ◌⊎◌, ◌++◌, [], ◌∷◌, ℕ, suc, List, None, OnOk, IfOk, map, option_map, codes, decimal};
+ghost use Rattle.std.specs.Prelude.{◌≡◌, ◌⊎◌, ◌++◌, [], ◌∷◌, ℕ, suc, None, Some, OnOk, IfOk, map, option_map, codes, decimal};
 ghost use Rattle.std.specs.List.{list_any};
 ghost use Rattle.sp_io.specs.Told.{extended};
 ghost use Rattle.sp_top.specs.Answer as answer;
@@ -13,18 +13,21 @@ ghost use Rattle.sp_top.specs.Answer.{CommandAnswer, TextAnswer, IsFileAnswer, I
 ghost use Rattle.sp_exec.specs.Replay.{rank};
 ghost use Rattle.sp_exec.specs.View.{cause_of};
 ghost use Rattle.sp_top.specs.Command as command;
-ghost use Rattle.sp_top.specs.Command.{IsLine, IsNoLine, fetched, request_of, of_proofs, budget_in};
+ghost use Rattle.sp_top.specs.Command.{IsLine, IsNoLine, fetched, told, request_of, of_proofs, budget_in};
+ghost use Rattle.sp_generated.specs.Theory as theories;
+ghost use Rattle.sp_words.specs.Line.{of_file};
 ghost use Rattle.sp_top.specs.Headline.{VerdictsAreTrue};
 ghost use Rattle.sp_top.specs.Run.{UsageExactly, ReadFaultExactly, TooLongExactly, AnswersExactly, PosedIsAnswered, VerdictsHold, WritesWhole, WritesPrefix, IsComplete, WriteFaultOnly, WritesNothing, AsksAsRequested};
-ghost use Rattle.sp_top.specs.declared.Status.TheVariants.{Fine, Falsified, Incomplete, Rejected, Refused};
+ghost use Rattle.sp_top.specs.declared.Status.TheVariants.{Fine, Falsified, Incomplete, Rejected, Refused, TooLong};
 ghost use Rattle.sp_analysis.specs.View.{verdict_of};
-ghost use Rattle.sp_words.specs.declared.Command.TheVariants.{Replay, Variants};
+ghost use Rattle.sp_words.specs.declared.Command.TheVariants.{Replay, Variants, Wf};
 
 use sp_analysis::Verdict;
+use sp_generated::generated;
 use sp_io::{FetchFail, Library, Sink, write_whole};
-use sp_pose::Reply;
+use sp_pose::{Reply, Reviewing};
 use sp_replay::{Attempt, Cause};
-use sp_words::{Command, Request, RequestError};
+use sp_words::{Command, Request, RequestError, Text};
 use std::alloc::{AllocError, Global};
 
 mod words;
@@ -45,7 +48,7 @@ pub enum Status {
     Incomplete = 2,
     /// Some proof is rejected, or a step can't be done.
     Rejected = 3,
-    /// The text is refused, or a line behind it, or it has no lemma of the name that is given.
+    /// The text is refused, or its theory, or a line behind it, or it has no lemma of the name that is given.
     Refused = 4,
     /// The words are no line of the command.
     Usage = 5,
@@ -190,6 +193,24 @@ fn answer_forms(alloc: Global, bytes: &[u8]) -> Result<(Vec<u8>, Status), AllocE
     }
 }
 
+/// The whole answer to the bytes of a text whose theory is reviewed.
+#[tactic(auto, using(crate::proofs::Answered::answers))]
+fn answer_review(alloc: Global, bytes: &[u8]) -> Result<(Vec<u8>, Status), AllocError>
+    ensures { IfOk result (λ answer. CommandAnswer Wf 0 None bytes.now answer.0.items answer.1) }
+{
+    match sp_pose::reviewed(alloc, bytes)? {
+        Reviewing::Refused(place) => refusal(alloc, place),
+        Reviewing::Done(review) => {
+            let status = if review.is_fine {
+                Status::Fine
+            } else {
+                Status::Refused
+            };
+            Ok((review.text, status))
+        }
+    }
+}
+
 /// The whole answer to the bytes of a text, as it was asked for.
 fn answer(alloc: Global, request: &Request, bytes: &[u8]) -> Result<(Vec<u8>, Status), AllocError>
     ensures { IfOk result (λ answer. TextAnswer (request_of request.now) bytes.now answer.0.items answer.1) }
@@ -202,6 +223,15 @@ fn answer(alloc: Global, request: &Request, bytes: &[u8]) -> Result<(Vec<u8>, St
         Command::Check => answer_proofs(alloc, sp_analysis::Command::Check, request.lemma, bytes),
         Command::Replay => answer_steps(alloc, bytes),
         Command::Variants => answer_forms(alloc, bytes),
+        Command::Wf => answer_review(alloc, bytes),
+        Command::Graph => {
+            let command = sp_analysis::Command::Graph(request.budget);
+            answer_proofs(alloc, command, request.lemma, bytes)
+        }
+        Command::Gen => {
+            let command = sp_analysis::Command::Count(request.budget);
+            answer_proofs(alloc, command, request.lemma, bytes)
+        }
     }
 }
 
@@ -229,29 +259,70 @@ fn answer_proofs(
     }
 }
 
-/// The whole answer to what is asked, whose text is fetched.
+/// The answer to a text that is longer than the limit.
+fn too_long(alloc: Global) -> Result<(Vec<u8>, Status), AllocError>
+    ensures text { IfOk result (λ answer. answer.0.items ≡ codes "refused: text longer than 1048576 bytes\n") }
+    ensures status { IfOk result (λ answer. answer.1 ≡ TooLong) }
+{
+    fixed(
+        alloc,
+        b"refused: text longer than 1048576 bytes\n",
+        Status::TooLong,
+    )
+}
+
+/// The whole answer to what is asked of the text of this name, which is fetched.
 fn answer_file<L: Library>(
     alloc: Global,
     request: &Request,
+    file: &str,
     library: &mut L,
 ) -> Result<(Vec<u8>, Status), AllocError>
-    ensures answer { IfOk result (λ answer. IsFileAnswer (request_of request.now) (L.holds library.old request.now.file.now) (L.faults library.old) (L.faults library.new) answer.0.items answer.1) }
-    ensures asked { (L.asked library.new ≡ L.asked library.old) ⊎ (L.asked library.new ≡ extended (L.asked library.old) (fetched (request_of request.now))) }
-    ensures asked_all { OnOk result (L.asked library.new ≡ extended (L.asked library.old) (fetched (request_of request.now))) }
+    requires { (request_of request.now).text ≡ of_file file.now }
+    ensures answer { IfOk result (λ answer. IsFileAnswer (request_of request.now) (L.holds library.old file.now) (L.faults library.old) (L.faults library.new) answer.0.items answer.1) }
+    ensures asked { (L.asked library.new ≡ L.asked library.old) ⊎ (L.asked library.new ≡ extended (L.asked library.old) (file.now ∷ [])) }
+    ensures asked_all { OnOk result (L.asked library.new ≡ extended (L.asked library.old) (file.now ∷ [])) }
 {
-    match library.fetch(alloc, request.file, TEXT_LIMIT) {
+    match library.fetch(alloc, file, TEXT_LIMIT) {
         Ok(bytes) => answer(alloc, request, &bytes),
         Err(FetchFail::Failed) | Err(FetchFail::Missing) => fixed(
             alloc,
             b"refused: read fault\n",
             Status::ReadFault,
         ),
-        Err(FetchFail::TooLong) => fixed(
-            alloc,
-            b"refused: text longer than 1048576 bytes\n",
-            Status::TooLong,
-        ),
+        Err(FetchFail::TooLong) => too_long(alloc),
         Err(FetchFail::NoMemory) => Err(AllocError),
+    }
+}
+
+/// The whole answer to what is asked of the theory that is made of this number.
+fn answer_made(
+    alloc: Global,
+    request: &Request,
+    number: u16,
+) -> Result<(Vec<u8>, Status), AllocError>
+    ensures { (before : ℕ) → (now : ℕ) → IfOk result (λ answer. IsFileAnswer (request_of request.now) (Some (Some (theories.generated number))) before now answer.0.items answer.1) }
+{
+    let bytes = generated(alloc, number)?;
+    if TEXT_LIMIT < bytes.len() {
+        return too_long(alloc);
+    }
+    answer(alloc, request, &bytes)
+}
+
+/// The whole answer to what is asked.
+fn answer_request<L: Library>(
+    alloc: Global,
+    request: &Request,
+    library: &mut L,
+) -> Result<(Vec<u8>, Status), AllocError>
+    ensures answer { IfOk result (λ answer. IsFileAnswer (request_of request.now) (told (L.holds library.old) (request_of request.now)) (L.faults library.old) (L.faults library.new) answer.0.items answer.1) }
+    ensures asked { (L.asked library.new ≡ L.asked library.old) ⊎ (L.asked library.new ≡ extended (L.asked library.old) (fetched (request_of request.now))) }
+    ensures asked_all { OnOk result (L.asked library.new ≡ extended (L.asked library.old) (fetched (request_of request.now))) }
+{
+    match request.text {
+        Text::File(file) => answer_file(alloc, request, file, library),
+        Text::Made(number) => answer_made(alloc, request, number),
     }
 }
 
@@ -267,7 +338,7 @@ fn respond<L: Library>(
     ensures asked_all { OnOk result ((request : command.Request) → IsLine words.now request → L.asked library.new ≡ extended (L.asked library.old) (fetched request)) }
 {
     match words.request() {
-        Ok(request) => answer_file(alloc, &request, library),
+        Ok(request) => answer_request(alloc, &request, library),
         Err(RequestError::NoLine) => fixed(alloc, b"refused: usage\n", Status::Usage),
         Err(RequestError::NoMemory) => Err(AllocError),
     }
@@ -300,7 +371,8 @@ pub fn run<L: Library, K: Sink>(
     // is falsified holds in none that does. A lemma whose line says so is read over learning logs in place of executions.
     ensures headline { VerdictsAreTrue words.now (L.holds library.old) (K.written out.old) (K.written out.new) result }
     // And exactly: what is written of each lemma is what is to be written of it. A proof that is checked is accepted exactly where its every
-    // step is an instance of a move, with the cases of that move. What is replayed is told as it is, and each rule with its forms.
+    // step is an instance of a move, with the cases of that move. What is replayed is told as it is, and each rule with its forms. A graph is that of a log that
+    // breaks its lemma or satisfies it, verdicts that are counted are so, and the findings that are told are those on the theory.
     ensures verdicts { VerdictsHold words.now (L.holds library.old) (L.faults library.old) (L.faults library.new) (K.written out.old) (K.written out.new) result }
     // What stands written is the whole answer, or a prefix of it, or nothing.
     ensures whole { WritesWhole words.now (L.holds library.old) (L.faults library.old) (L.faults library.new) (K.written out.old) (K.written out.new) result }

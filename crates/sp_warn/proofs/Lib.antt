@@ -5,6 +5,5 @@ pub mod LookedUp
 pub mod Namesakes
 pub mod SameForms
 pub mod SameMade
-pub mod Seen
 pub mod Stepping
 pub mod Telling

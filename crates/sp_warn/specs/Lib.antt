@@ -3,7 +3,6 @@ pub mod Firsts
 pub mod FormView
 pub mod Forms
 pub mod Groups
-pub mod TextsView
 pub mod Told
 pub mod ToldLaws
 pub mod View

@@ -80,3 +80,6 @@ warnings t = warnings_on (resolved t).items
 -- a line for each, each line once
 abbrev pub lines_of : List Warning → List (List ℕ)
 lines_of ws = once_after [] (map line ws)
+
+abbrev pub warning_lines : WrittenText → List (List ℕ)
+warning_lines t = lines_of (warnings t)

@@ -7,15 +7,15 @@ ghost use Rattle.sp_read_parts.specs.Formulas as written;
 ghost use Rattle.sp_written.specs.Views as view;
 ghost use Rattle.sp_warn.specs.Warning as warnings;
 ghost use Rattle.sp_warn.specs.FormView.{made_of};
-ghost use Rattle.sp_warn.specs.TextsView.{texts_of};
+ghost use Rattle.sp_lines.specs.TextsView.{texts_of};
 ghost use Rattle.sp_warn.specs.Told.{lines_after};
 ghost use Rattle.sp_warn.specs.Warnings.{at_action, at_atom, actions_of_formula, actions_of_item};
 ghost use Rattle.sp_warn.specs.ToldLaws.{told_both, both_orders};
 
 use crate::forms::action_form;
 use crate::made::Made;
-use crate::texts::Texts;
-use crate::warning::Warning;
+use crate::warning::{Warning, tell_if};
+use sp_lines::Texts;
 use sp_read_parts::{ReadFormula, WrittenAction, WrittenVariable};
 use sp_walk::{Collects, ReadAtom, collect_closed};
 use sp_written::Item;
@@ -40,8 +40,9 @@ fn tell_action(
 {
     let form = action_form(action);
     let is_missing = !made.has(form);
-    lines.tell_if(
+    tell_if(
         alloc,
+        lines,
         is_missing,
         Warning::InNoRule(formula, form.symbol, form.arity),
     )

@@ -5,12 +5,12 @@ ghost use Rattle.indexmap.specs.IndexMap.{get, UpdatesBy};
 ghost use Rattle.sp_declared.specs.View as declared;
 ghost use Rattle.sp_warn.specs.Constants.{alike_before, alike_among};
 ghost use Rattle.sp_warn.specs.Groups.{group_at, Grouped};
-ghost use Rattle.sp_warn.specs.TextsView.{texts_of};
+ghost use Rattle.sp_lines.specs.TextsView.{texts_of};
 ghost use Rattle.sp_warn.specs.Told.{lines_after};
 
-use crate::texts::Texts;
-use crate::warning::Warning;
+use crate::warning::{Warning, tell_if};
 use indexmap::IndexMap;
+use sp_lines::Texts;
 use std::alloc::{AllocError, Global};
 
 /// Tells of two constants, if they differ in case only.
@@ -23,7 +23,7 @@ fn tell_if_alike(
     ensures { OnOk result (texts_of lines.new ≡ lines_after (texts_of lines.old) (alike_before (earlier.now ∷ []) constant.now)) }
 {
     let are_alike = earlier.eq_ignore_ascii_case(constant) && earlier != constant;
-    lines.tell_if(alloc, are_alike, Warning::Alike(earlier, constant))
+    tell_if(alloc, lines, are_alike, Warning::Alike(earlier, constant))
 }
 
 /// Tells of each of these constants that differs from the one in case only.

@@ -11,9 +11,9 @@ ghost use Rattle.sp_written.specs.Views as view;
 ghost use Rattle.sp_declared.specs.Constants.{names_at};
 ghost use Rattle.sp_declared.specs.OnceLaws.{once_both, both_orders};
 ghost use Rattle.sp_warn.specs.Constants as warn;
-ghost use Rattle.sp_warn.specs.TextsView.{texts_of};
+ghost use Rattle.sp_lines.specs.TextsView.{texts_of};
 
-use crate::texts::Texts;
+use sp_lines::Texts;
 use sp_read_parts::{
     ReadFormula, WrittenAction, WrittenFact, WrittenRule, WrittenTerm, WrittenVariable,
 };

@@ -4,13 +4,13 @@ ghost use Rattle.std.specs.Prelude.{◌≡◌, ◌∷◌, [], None, OnOk};
 ghost use Rattle.std.specs.List.{flat_map};
 ghost use Rattle.sp_spec_text.specs.Written.{lemma_item};
 ghost use Rattle.sp_written.specs.Views as view;
-ghost use Rattle.sp_warn.specs.TextsView.{texts_of};
+ghost use Rattle.sp_lines.specs.TextsView.{texts_of};
 ghost use Rattle.sp_warn.specs.Told.{lines_after};
 ghost use Rattle.sp_warn.specs.Warnings as spec;
 ghost use Rattle.sp_warn.specs.Warnings.{induction_of_item};
 
-use crate::texts::Texts;
-use crate::warning::Warning;
+use crate::warning::{Warning, tell_if};
+use sp_lines::Texts;
 use sp_written::{Attribute, Item, TraceKind, WrittenLemma};
 use std::alloc::{AllocError, Global};
 
@@ -49,7 +49,12 @@ fn tell_lemma(alloc: Global, lines: &mut Texts, lemma: &WrittenLemma) -> Result<
     ensures { OnOk result (texts_of lines.new ≡ lines_after (texts_of lines.old) (induction_of_item (lemma_item (view.lemma lemma.now) (view.attributes lemma.now.attributes.items) None))) }
 {
     let has_no_effect = asks_for_trace(lemma.kind) && is_for_induction(&lemma.attributes);
-    lines.tell_if(alloc, has_no_effect, Warning::NoInduction(lemma.name))
+    tell_if(
+        alloc,
+        lines,
+        has_no_effect,
+        Warning::NoInduction(lemma.name),
+    )
 }
 
 fn tell_item(alloc: Global, lines: &mut Texts, item: &Item) -> Result<(), AllocError>

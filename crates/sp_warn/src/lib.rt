@@ -1,5 +1,5 @@
 // The warnings on a theory: premises and actions that nothing makes, names in several forms, constants that differ in case, marks without effect.
-// Below stand theories as they are written (sp_written), walks over formulas (sp_walk), and what theories declare (sp_declared); above stands what a
+// Below stand lines (sp_lines), theories as they are written (sp_written), walks over formulas (sp_walk), and what theories declare (sp_declared); above stands what a
 // text poses (sp_pose).
 // Carried here: the warnings that are written are the definition's (specs/Warnings.antt), in its order, each line once. Names are looked up in maps that
 // keep the order in which they were first seen, so that the time is linear in the text.
@@ -13,7 +13,6 @@ mod induction;
 mod made;
 mod several;
 mod sources;
-mod texts;
 mod warning;
 mod warnings_text;
 

@@ -5,14 +5,14 @@ ghost use Rattle.sp_warn.specs.Firsts.{called_by, Knows};
 ghost use Rattle.sp_warn.specs.Forms as spec;
 ghost use Rattle.sp_warn.specs.Forms.{differs_from_first};
 ghost use Rattle.sp_warn.specs.FormView.{form_of};
-ghost use Rattle.sp_warn.specs.TextsView.{texts_of};
+ghost use Rattle.sp_lines.specs.TextsView.{texts_of};
 ghost use Rattle.sp_warn.specs.Told.{lines_after};
 ghost use Rattle.sp_warn.specs.Warnings.{several_among};
 
 use crate::forms::{Form, Usage};
-use crate::texts::Texts;
-use crate::warning::Warning;
+use crate::warning::{Warning, tell_if};
 use indexmap::IndexMap;
+use sp_lines::Texts;
 use std::alloc::{AllocError, Global};
 
 /// A name, of facts or of actions.
@@ -61,7 +61,12 @@ pub fn tell_several(alloc: Global, lines: &mut Texts, forms: &Vec<Form>) -> Resu
     let mut firsts = IndexMap::new(alloc);
     for form in forms {
         let has_another = differs(&mut firsts, *form)?;
-        lines.tell_if(alloc, has_another, Warning::SeveralForms(form.symbol))?;
+        tell_if(
+            alloc,
+            lines,
+            has_another,
+            Warning::SeveralForms(form.symbol),
+        )?;
     }
     Ok(())
 }

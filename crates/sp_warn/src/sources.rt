@@ -6,14 +6,14 @@ ghost use Rattle.sp_read_parts.specs.Views as parts;
 ghost use Rattle.sp_written.specs.Views as view;
 ghost use Rattle.sp_declared.specs.WrittenRules.{item_written, rules_written};
 ghost use Rattle.sp_warn.specs.FormView.{made_of};
-ghost use Rattle.sp_warn.specs.TextsView.{texts_of};
+ghost use Rattle.sp_lines.specs.TextsView.{texts_of};
 ghost use Rattle.sp_warn.specs.Told.{lines_after};
 ghost use Rattle.sp_warn.specs.Warnings.{without_source, sources_of_rule};
 
 use crate::forms::fact_form;
 use crate::made::Made;
-use crate::texts::Texts;
-use crate::warning::Warning;
+use crate::warning::{Warning, tell_if};
+use sp_lines::Texts;
 use sp_read_parts::{WrittenFact, WrittenRule};
 use sp_written::Item;
 use std::alloc::{AllocError, Global};
@@ -30,8 +30,9 @@ fn tell_premise(
 {
     let form = fact_form(fact);
     let is_missing = !made.has(form);
-    lines.tell_if(
+    tell_if(
         alloc,
+        lines,
         is_missing,
         Warning::NoSource(rule, form.symbol, form.arity),
     )

@@ -1,9 +1,12 @@
 // Warnings, and the lines that say them.
 
-ghost use Rattle.std.specs.Prelude.{◌≡◌, IfOk, string_bytes};
+ghost use Rattle.std.specs.Prelude.{◌≡◌, [], IfOk, OnOk, string_bytes};
+ghost use Rattle.sp_lines.specs.TextsView.{texts_of};
+ghost use Rattle.sp_warn.specs.Told.{lines_after};
 ghost use Rattle.sp_warn.specs.Warning as spec;
 ghost use Rattle.sp_warn.specs.View.{warning_of};
 
+use sp_lines::Texts;
 use std::alloc::{AllocError, Global};
 
 /// A warning on a theory: nothing that stands in the way of a proof, and most often a slip.
@@ -23,7 +26,7 @@ pub enum Warning<'a> {
 
 /// The line of a warning.
 #[tactic(auto, unfolding(crate::specs::Warning::line))]
-pub fn line(alloc: Global, warning: Warning) -> Result<String, AllocError>
+fn line(alloc: Global, warning: Warning) -> Result<String, AllocError>
     ensures { IfOk result (λ l. string_bytes l ≡ spec.line (warning_of warning.entry)) }
 {
     match warning {
@@ -45,4 +48,20 @@ pub fn line(alloc: Global, warning: Warning) -> Result<String, AllocError>
             format!(in alloc; "warning: lemma {lemma}: use_induction on exists-trace")
         }
     }
+}
+
+/// Puts the line of the warning at the end, if the condition holds and the line isn't there.
+pub fn tell_if(
+    alloc: Global,
+    lines: &mut Texts,
+    holds: bool,
+    warning: Warning,
+) -> Result<(), AllocError>
+    ensures { OnOk result (texts_of lines.new ≡ lines_after (texts_of lines.old) (spec.told holds (warning_of warning.entry) [])) }
+{
+    if holds {
+        let text = line(alloc, warning)?;
+        lines.see(text)?;
+    }
+    Ok(())
 }

@@ -12,7 +12,7 @@ use crate::induction::tell_induction;
 use crate::made::Made;
 use crate::several::tell_several;
 use crate::sources::tell_sources;
-use crate::texts::Texts;
+use sp_lines::Texts;
 use sp_written::ReadTheory;
 use std::alloc::{AllocError, Global};
 

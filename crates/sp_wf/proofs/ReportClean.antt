@@ -26,7 +26,7 @@ use Rattle.sp_wf_formulas.specs.FormulaFindings.{unknown_in_formula, formula_has
 use Rattle.sp_wf_formulas.specs.Statements.{as_lemma, statements_in}
 use Rattle.sp_wf_formulas.proofs.FormulaClean.{LemmaClean, clean_has_form, form_is_clean}
 use Rattle.sp_wf.specs.ItemFindings.{wide_in_items, unknown_in_items, repeated, on_rules, on_lemmas, on_items, with_bound, twice_in_rule, marks_in_rule, findings_on_rules, findings_on_lemmas, learning_in_item, attributes_in_item}
-use Rattle.sp_wf.specs.Report.{findings_on_symbols, findings_on_statements, findings, text_of}
+use Rattle.sp_wf.specs.Report.{findings_on_symbols, findings_on_statements, findings}
 use Rattle.sp_wf.specs.Laws.{IsFineRule, IsFineLemma, IsFineRestriction, IsWellFormed, ReportIsRight}
 use Rattle.sp_wf.proofs.NamesClean.{names_distinct, distinct_names, each_kind_distinct, in_order_distinct}
 use Rattle.sp_wf.proofs.ItemsClean.{Clean, rules_clean, no_rule, lemmas_clean, no_lemma, items_clean, no_item, wide_clean, no_wide, all_known, none_left_out, items_known, known_items, builtins_kept, functions_kept, declared_kept, numbered_over, written_over}
@@ -166,16 +166,11 @@ some_line : (fs : List Finding) (xs : List (List ℕ)) → NotEmpty xs → NotEm
 some_line [] xs h = h
 some_line (f ∷ fs) xs h = some_line fs (if is_listed (line f) xs then xs else xs ++ line f ∷ []) (either_way (is_listed (line f) xs) xs (line f) h)
 
-some_text : (ls : List (List ℕ)) → NotEmpty ls → text_of ls ≡ [] → ⊥
-some_text ls h e = at h.first (sym (ap text_of h.is) ∙ e)
-  where
-    at : (l : List ℕ) → l ++ (codes "\n" ++ text_of h.rest) ≡ [] → ⊥
-    at [] k = absurd cc
-    at (b ∷ bytes) k = absurd cc
-
-no_text : (fs : List Finding) → text_of (lines_after [] fs) ≡ [] → are_none fs ≡ true
-no_text [] e = refl
-no_text (f ∷ fs) e = absurd (some_text (lines_after (line f ∷ []) fs) (some_line fs (line f ∷ []) (record { first = line f; rest = []; is = refl })) e)
+no_line : (fs : List Finding) → lines_after [] fs ≡ [] → are_none fs ≡ true
+no_line [] e = refl
+no_line (f ∷ fs) e =
+    let h = some_line fs (line f ∷ []) (record { first = line f; rest = []; is = refl }) in
+    absurd (let none : h.first ∷ h.rest ≡ [] = sym h.is ∙ e in cc)
 
 -- ---- the whole
 
@@ -319,5 +314,5 @@ module _ (t : WrittenText) where
 pub report_is_right : ReportIsRight
 report_is_right = record {
   no_finding = λ t. ((λ e. well_formed t (ap are_none e)), (λ h. nothing (findings t) (none_stands t h)));
-  no_line = λ t. ((λ e. well_formed t (no_text (findings t) e)), (λ h. ap (λ (fs : List Finding). text_of (lines_after [] fs)) (nothing (findings t) (none_stands t h))));
+  no_line = λ t. ((λ e. well_formed t (no_line (findings t) e)), (λ h. ap (lines_after []) (nothing (findings t) (none_stands t h))));
 }

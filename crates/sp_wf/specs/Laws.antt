@@ -17,7 +17,7 @@ use Rattle.sp_wf_rules.specs.RuleFindings.{unknown_in_rule, facts_have_destructo
 use Rattle.sp_wf_rules.specs.BindingFindings.{BoundNames, bound_in}
 use Rattle.sp_wf_formulas.specs.FormulaFindings.{unknown_in_formula, formula_has_destructor}
 use Rattle.sp_wf_formulas.specs.Statements.{as_lemma}
-use Rattle.sp_wf.specs.Report.{findings, report}
+use Rattle.sp_wf.specs.Report.{findings, fatal_lines}
 
 -- each builtin is known, each symbol is declared in one way and has no more than sixteen arguments
 pub record DeclaresWell (t : WrittenText) : Type 0 where
@@ -66,4 +66,4 @@ pub record IsWellFormed (t : WrittenText) : Type 0 where
 
 pub record ReportIsRight : Type 0 where
   pub no_finding : (t : WrittenText) → (findings t ≡ []) ↔ IsWellFormed t
-  pub no_line : (t : WrittenText) → (report t ≡ []) ↔ IsWellFormed t
+  pub no_line : (t : WrittenText) → (fatal_lines t ≡ []) ↔ IsWellFormed t

@@ -35,8 +35,6 @@ abbrev pub text_of : List (List ℕ) → List ℕ
 text_of [] = []
 text_of (l ∷ ls) = l ++ (codes "\n" ++ text_of ls)
 
-abbrev pub text_about : List Finding → List ℕ
-text_about findings = text_of (lines_after [] findings)
-
-abbrev pub report : WrittenText → List ℕ
-report t = text_about (findings t)
+-- a line for each finding, each line once
+abbrev pub fatal_lines : WrittenText → List (List ℕ)
+fatal_lines t = lines_after [] (findings t)

@@ -3,16 +3,17 @@
 ghost use Rattle.std.specs.Prelude.{◌≡◌, OnOk};
 ghost use Rattle.sp_written.specs.Views as view;
 ghost use Rattle.sp_finding.specs.Finding.{lines_after};
-ghost use Rattle.sp_finding.specs.View.{lines_of};
+ghost use Rattle.sp_lines.specs.TextsView.{texts_of};
 ghost use Rattle.sp_wf.specs.ItemFindings as spec;
 
 use sp_finding::{Finding, tell_if};
+use sp_lines::Texts;
 use sp_wf_formulas::tell_learning;
 use sp_written::{Attribute, Item, WrittenLemma};
 use std::alloc::{AllocError, Global};
 
-fn tell_if_learning(alloc: Global, lines: &mut Vec<String>, item: &Item) -> Result<(), AllocError>
-    ensures { OnOk result (lines_of lines.new.items ≡ lines_after (lines_of lines.old.items) (spec.learning_in_item (view.item item.now))) }
+fn tell_if_learning(alloc: Global, lines: &mut Texts, item: &Item) -> Result<(), AllocError>
+    ensures { OnOk result (texts_of lines.new ≡ lines_after (texts_of lines.old) (spec.learning_in_item (view.item item.now))) }
 {
     match item {
         Item::Restriction(restriction) => tell_learning(alloc, lines, restriction),
@@ -23,10 +24,10 @@ fn tell_if_learning(alloc: Global, lines: &mut Vec<String>, item: &Item) -> Resu
 /// Tells of each restriction that names the action of learning.
 pub fn tell_all_learning(
     alloc: Global,
-    lines: &mut Vec<String>,
+    lines: &mut Texts,
     items: &Vec<Item>,
 ) -> Result<(), AllocError>
-    ensures { OnOk result (lines_of lines.new.items ≡ lines_after (lines_of lines.old.items) (spec.on_items spec.learning_in_item (view.items items.now.items))) }
+    ensures { OnOk result (texts_of lines.new ≡ lines_after (texts_of lines.old) (spec.on_items spec.learning_in_item (view.items items.now.items))) }
 {
     for item in items {
         tell_if_learning(alloc, lines, item)?;
@@ -37,11 +38,11 @@ pub fn tell_all_learning(
 /// Tells of the attribute of the lemma of this name, where it isn't known.
 fn tell_attribute(
     alloc: Global,
-    lines: &mut Vec<String>,
+    lines: &mut Texts,
     lemma: &str,
     attribute: &Attribute,
 ) -> Result<(), AllocError>
-    ensures { OnOk result (lines_of lines.new.items ≡ lines_after (lines_of lines.old.items) (spec.left_out_by lemma.now (view.attribute attribute.now))) }
+    ensures { OnOk result (texts_of lines.new ≡ lines_after (texts_of lines.old) (spec.left_out_by lemma.now (view.attribute attribute.now))) }
 {
     match attribute {
         Attribute::Unknown(word) => {
@@ -52,12 +53,8 @@ fn tell_attribute(
 }
 
 /// Tells of each attribute of the lemma that isn't known.
-fn tell_attributes(
-    alloc: Global,
-    lines: &mut Vec<String>,
-    lemma: &WrittenLemma,
-) -> Result<(), AllocError>
-    ensures { OnOk result (lines_of lines.new.items ≡ lines_after (lines_of lines.old.items) (spec.left_out_of lemma.now.name.now (view.attributes lemma.now.attributes.items))) }
+fn tell_attributes(alloc: Global, lines: &mut Texts, lemma: &WrittenLemma) -> Result<(), AllocError>
+    ensures { OnOk result (texts_of lines.new ≡ lines_after (texts_of lines.old) (spec.left_out_of lemma.now.name.now (view.attributes lemma.now.attributes.items))) }
 {
     for attribute in &lemma.attributes {
         tell_attribute(alloc, lines, lemma.name, attribute)?;
@@ -65,8 +62,8 @@ fn tell_attributes(
     Ok(())
 }
 
-fn tell_if_attributes(alloc: Global, lines: &mut Vec<String>, item: &Item) -> Result<(), AllocError>
-    ensures { OnOk result (lines_of lines.new.items ≡ lines_after (lines_of lines.old.items) (spec.attributes_in_item (view.item item.now))) }
+fn tell_if_attributes(alloc: Global, lines: &mut Texts, item: &Item) -> Result<(), AllocError>
+    ensures { OnOk result (texts_of lines.new ≡ lines_after (texts_of lines.old) (spec.attributes_in_item (view.item item.now))) }
 {
     match item {
         Item::Lemma(lemma) => tell_attributes(alloc, lines, lemma),
@@ -77,10 +74,10 @@ fn tell_if_attributes(alloc: Global, lines: &mut Vec<String>, item: &Item) -> Re
 /// Tells of each attribute of a lemma that isn't known.
 pub fn tell_all_attributes(
     alloc: Global,
-    lines: &mut Vec<String>,
+    lines: &mut Texts,
     items: &Vec<Item>,
 ) -> Result<(), AllocError>
-    ensures { OnOk result (lines_of lines.new.items ≡ lines_after (lines_of lines.old.items) (spec.on_items spec.attributes_in_item (view.items items.now.items))) }
+    ensures { OnOk result (texts_of lines.new ≡ lines_after (texts_of lines.old) (spec.on_items spec.attributes_in_item (view.items items.now.items))) }
 {
     for item in items {
         tell_if_attributes(alloc, lines, item)?;

@@ -4,12 +4,14 @@ ghost use Rattle.std.specs.Prelude.{◌≡◌, ◌||◌, ℕ, List, [], OnOk, by
 ghost use Rattle.std.specs.BTreeSet.{contains_text};
 ghost use Rattle.sp_written.specs.Views as view;
 ghost use Rattle.sp_finding.specs.Finding.{bound_twice, lines_after, told};
-ghost use Rattle.sp_finding.specs.View.{finding_of, lines_of};
+ghost use Rattle.sp_finding.specs.View.{finding_of};
+ghost use Rattle.sp_lines.specs.TextsView.{texts_of};
 ghost use Rattle.sp_wf_rules.specs.BindingView.{names_of};
 ghost use Rattle.sp_wf.specs.ItemFindings as spec;
 ghost use Rattle.sp_wf.specs.Told.{or_one_of, item_again};
 
 use sp_finding::{Finding, RuleFinding, tell_if};
+use sp_lines::Texts;
 use sp_wf_rules::BoundNames;
 use sp_written::Item;
 use std::alloc::{AllocError, Global};
@@ -18,12 +20,12 @@ use std::collections::BTreeSet;
 /// Tells of the name what is said of it, where it is one of these, and puts it among them.
 fn tell_name(
     alloc: Global,
-    lines: &mut Vec<String>,
+    lines: &mut Texts,
     names: &mut BTreeSet<String>,
     name: &str,
     finding: Finding,
 ) -> Result<(), AllocError>
-    ensures is_told { OnOk result (lines_of lines.new.items ≡ lines_after (lines_of lines.old.items) (told (contains_text names.old name.now) (finding_of finding.entry) [])) }
+    ensures is_told { OnOk result (texts_of lines.new ≡ lines_after (texts_of lines.old) (told (contains_text names.old name.now) (finding_of finding.entry) [])) }
     ensures is_put { OnOk result ((q : List ℕ) → contains_text names.new q ≡ (bytes_eq name.now q || contains_text names.old q)) }
 {
     let key = String::from_str(alloc, name)?;
@@ -35,12 +37,12 @@ fn tell_name(
 /// Tells of the item's name where an item of its kind has it already; restrictions and lemmas are of one kind.
 fn tell_item_name(
     alloc: Global,
-    lines: &mut Vec<String>,
+    lines: &mut Texts,
     rules: &mut BTreeSet<String>,
     statements: &mut BTreeSet<String>,
     item: &Item,
 ) -> Result<(), AllocError>
-    ensures is_told { OnOk result (lines_of lines.new.items ≡ lines_after (lines_of lines.old.items) (item_again (contains_text rules.old) (contains_text statements.old) (view.item item.now))) }
+    ensures is_told { OnOk result (texts_of lines.new ≡ lines_after (texts_of lines.old) (item_again (contains_text rules.old) (contains_text statements.old) (view.item item.now))) }
     ensures in_rules { OnOk result ((q : List ℕ) → contains_text rules.new q ≡ or_one_of (spec.names_of_rules (view.item item.now)) (contains_text rules.old) q) }
     ensures in_statements { OnOk result ((q : List ℕ) → contains_text statements.new q ≡ or_one_of (spec.names_of_statements (view.item item.now)) (contains_text statements.old) q) }
 {
@@ -62,12 +64,8 @@ fn tell_item_name(
 }
 
 /// Tells of each rule whose name an earlier rule has, and of each restriction and each lemma whose name an earlier one has.
-pub fn tell_names(
-    alloc: Global,
-    lines: &mut Vec<String>,
-    items: &Vec<Item>,
-) -> Result<(), AllocError>
-    ensures { OnOk result (lines_of lines.new.items ≡ lines_after (lines_of lines.old.items) (spec.repeated [] [] (view.items items.now.items))) }
+pub fn tell_names(alloc: Global, lines: &mut Texts, items: &Vec<Item>) -> Result<(), AllocError>
+    ensures { OnOk result (texts_of lines.new ≡ lines_after (texts_of lines.old) (spec.repeated [] [] (view.items items.now.items))) }
 {
     let mut rules = BTreeSet::new(alloc);
     let mut statements = BTreeSet::new(alloc);
@@ -80,11 +78,11 @@ pub fn tell_names(
 /// Tells of each name that the rule binds twice.
 pub fn tell_twice(
     alloc: Global,
-    lines: &mut Vec<String>,
+    lines: &mut Texts,
     rule: &str,
     bound: &BoundNames,
 ) -> Result<(), AllocError>
-    ensures { OnOk result (lines_of lines.new.items ≡ lines_after (lines_of lines.old.items) (spec.told_again (bound_twice rule.now) [] (names_of bound.now).bound)) }
+    ensures { OnOk result (texts_of lines.new ≡ lines_after (texts_of lines.old) (spec.told_again (bound_twice rule.now) [] (names_of bound.now).bound)) }
 {
     let mut seen = BTreeSet::new(alloc);
     for name in &bound.bound {

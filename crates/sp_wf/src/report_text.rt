@@ -1,4 +1,4 @@
-// The report on a theory.
+// The fatal findings on a theory, as lines.
 
 ghost use Rattle.std.specs.Prelude.{◌≡◌, ◌++◌, [], IfOk, OnOk, map};
 ghost use Rattle.sp_fact.specs.GroundView.{equation_of, symbol_of};
@@ -7,6 +7,7 @@ ghost use Rattle.sp_written.specs.Views as view;
 ghost use Rattle.sp_declared.specs.NumberedView.{numbered_of};
 ghost use Rattle.sp_finding.specs.Finding.{lines_after};
 ghost use Rattle.sp_finding.specs.View.{lines_of};
+ghost use Rattle.sp_lines.specs.TextsView.{texts_of};
 ghost use Rattle.sp_wf_symbols.specs.EquationFindings.{findings_on_equations};
 ghost use Rattle.sp_wf_rules.specs.BindingView.{names_of};
 ghost use Rattle.sp_wf_formulas.specs.Statements.{statements_in};
@@ -22,6 +23,7 @@ use crate::told::{
 use crate::unknown::tell_all_unknown;
 use sp_declared::equations::NumberedEquation;
 use sp_fact::signature::{Equation, Symbol};
+use sp_lines::Texts;
 use sp_wf_rules::BoundNames;
 use sp_wf_symbols::{tell_declared, tell_equations, tell_left_out, without_numbers};
 use sp_written::{Item, ReadTheory};
@@ -31,12 +33,12 @@ use std::alloc::{AllocError, Global};
 #[tactic(auto, using(sp_finding::proofs::Telling::told_six))]
 fn tell_all_rules(
     alloc: Global,
-    lines: &mut Vec<String>,
+    lines: &mut Texts,
     equations: &Vec<Equation>,
     bound: &Vec<BoundNames>,
     items: &Vec<Item>,
 ) -> Result<(), AllocError>
-    ensures { OnOk result (lines_of lines.new.items ≡ lines_after (lines_of lines.old.items) (findings_on_rules (map equation_of equations.now.items) (map names_of bound.now.items) (view.items items.now.items))) }
+    ensures { OnOk result (texts_of lines.new ≡ lines_after (texts_of lines.old) (findings_on_rules (map equation_of equations.now.items) (map names_of bound.now.items) (view.items items.now.items))) }
 {
     tell_bound(alloc, lines, BindingFault::Twice, bound, items)?;
     tell_bound(alloc, lines, BindingFault::Marks, bound, items)?;
@@ -51,11 +53,11 @@ fn tell_all_rules(
 #[tactic(auto, using(sp_finding::proofs::Telling::told_five))]
 fn tell_all_formulas(
     alloc: Global,
-    lines: &mut Vec<String>,
+    lines: &mut Texts,
     equations: &Vec<Equation>,
     items: &Vec<Item>,
 ) -> Result<(), AllocError>
-    ensures { OnOk result (lines_of lines.new.items ≡ lines_after (lines_of lines.old.items) (findings_on_lemmas (map equation_of equations.now.items) (statements_in (view.items items.now.items)))) }
+    ensures { OnOk result (texts_of lines.new ≡ lines_after (texts_of lines.old) (findings_on_lemmas (map equation_of equations.now.items) (statements_in (view.items items.now.items)))) }
 {
     tell_statements(alloc, lines, FormulaFault::Unbound, items)?;
     tell_statements(alloc, lines, FormulaFault::Unguarded(equations), items)?;
@@ -69,11 +71,11 @@ fn tell_all_formulas(
 #[tactic(auto, using(sp_finding::proofs::Telling::told_three))]
 fn tell_all_statements(
     alloc: Global,
-    lines: &mut Vec<String>,
+    lines: &mut Texts,
     equations: &Vec<Equation>,
     items: &Vec<Item>,
 ) -> Result<(), AllocError>
-    ensures { OnOk result (lines_of lines.new.items ≡ lines_after (lines_of lines.old.items) (spec.findings_on_statements (map equation_of equations.now.items) (view.items items.now.items))) }
+    ensures { OnOk result (texts_of lines.new ≡ lines_after (texts_of lines.old) (spec.findings_on_statements (map equation_of equations.now.items) (view.items items.now.items))) }
 {
     tell_all_formulas(alloc, lines, equations, items)?;
     tell_all_learning(alloc, lines, items)?;
@@ -84,11 +86,11 @@ fn tell_all_statements(
 #[tactic(auto, using(sp_finding::proofs::Telling::told_three))]
 fn tell_symbols(
     alloc: Global,
-    lines: &mut Vec<String>,
+    lines: &mut Texts,
     symbols: &Vec<Symbol>,
     items: &Vec<Item>,
 ) -> Result<(), AllocError>
-    ensures { OnOk result (lines_of lines.new.items ≡ lines_after (lines_of lines.old.items) (spec.findings_on_symbols (map symbol_of symbols.now.items) (view.items items.now.items))) }
+    ensures { OnOk result (texts_of lines.new ≡ lines_after (texts_of lines.old) (spec.findings_on_symbols (map symbol_of symbols.now.items) (view.items items.now.items))) }
 {
     tell_left_out(alloc, lines, items)?;
     tell_declared(alloc, lines, symbols, items)?;
@@ -99,12 +101,12 @@ fn tell_symbols(
 #[tactic(auto, using(sp_finding::proofs::Telling::told_three))]
 fn tell_items(
     alloc: Global,
-    lines: &mut Vec<String>,
+    lines: &mut Texts,
     equations: &Vec<Equation>,
     bound: &Vec<BoundNames>,
     items: &Vec<Item>,
 ) -> Result<(), AllocError>
-    ensures { OnOk result (lines_of lines.new.items ≡ lines_after (lines_of lines.old.items) (findings_on_named (map equation_of equations.now.items) (map names_of bound.now.items) (view.items items.now.items))) }
+    ensures { OnOk result (texts_of lines.new ≡ lines_after (texts_of lines.old) (findings_on_named (map equation_of equations.now.items) (map names_of bound.now.items) (view.items items.now.items))) }
 {
     tell_names(alloc, lines, items)?;
     tell_all_rules(alloc, lines, equations, bound, items)?;
@@ -115,7 +117,7 @@ fn tell_items(
 #[tactic(auto, using(sp_finding::proofs::Telling::one_behind))]
 fn tell_equations_and_items(
     alloc: Global,
-    lines: &mut Vec<String>,
+    lines: &mut Texts,
     symbols: &Vec<Symbol>,
     plain: &Vec<Equation>,
     equations: &Vec<NumberedEquation>,
@@ -123,7 +125,7 @@ fn tell_equations_and_items(
     items: &Vec<Item>,
 ) -> Result<(), AllocError>
     requires { map equation_of plain.now.items ≡ their_equations (map numbered_of equations.now.items) }
-    ensures { OnOk result (lines_of lines.new.items ≡ lines_after (lines_of lines.old.items) (findings_on_equations (map symbol_of symbols.now.items) (map numbered_of equations.now.items) ++ findings_on_named (their_equations (map numbered_of equations.now.items)) (map names_of bound.now.items) (view.items items.now.items))) }
+    ensures { OnOk result (texts_of lines.new ≡ lines_after (texts_of lines.old) (findings_on_equations (map symbol_of symbols.now.items) (map numbered_of equations.now.items) ++ findings_on_named (their_equations (map numbered_of equations.now.items)) (map names_of bound.now.items) (view.items items.now.items))) }
 {
     tell_equations(alloc, lines, symbols, plain, equations)?;
     tell_items(alloc, lines, plain, bound, items)
@@ -133,7 +135,7 @@ fn tell_equations_and_items(
 #[tactic(auto, using(sp_finding::proofs::Telling::told_three))]
 fn tell_all(
     alloc: Global,
-    lines: &mut Vec<String>,
+    lines: &mut Texts,
     symbols: &Vec<Symbol>,
     plain: &Vec<Equation>,
     equations: &Vec<NumberedEquation>,
@@ -141,7 +143,7 @@ fn tell_all(
     theory: &ReadTheory,
 ) -> Result<(), AllocError>
     requires { map equation_of plain.now.items ≡ their_equations (map numbered_of equations.now.items) }
-    ensures { OnOk result (lines_of lines.new.items ≡ lines_after (lines_of lines.old.items) (spec.findings_by (map symbol_of symbols.now.items) (map numbered_of equations.now.items) (map names_of bound.now.items) (view.theory theory.now))) }
+    ensures { OnOk result (texts_of lines.new ≡ lines_after (texts_of lines.old) (spec.findings_by (map symbol_of symbols.now.items) (map numbered_of equations.now.items) (map names_of bound.now.items) (view.theory theory.now))) }
 {
     tell_symbols(alloc, lines, symbols, &theory.items)?;
     tell_arities(alloc, lines, &theory.items)?;
@@ -156,8 +158,14 @@ fn tell_all(
     )
 }
 
-/// The lines of the findings on a theory that declares these symbols and equations.
-fn lines(
+/// The lines of the fatal findings on a theory that declares these symbols and equations, and in which values stand for the names that are bound, and
+/// symbols for the names that are such, by the kind of finding, and then by the text. `bound` is what its items bind, as `sp_wf_rules::bound_in` says of the
+/// text as it is written. There are none exactly where there are no findings, as `report_is_right` says.
+///
+/// # Errors
+///
+/// `AllocError` where memory is wanting.
+pub fn fatal_lines(
     alloc: Global,
     symbols: &Vec<Symbol>,
     equations: &Vec<NumberedEquation>,
@@ -167,40 +175,22 @@ fn lines(
     ensures { IfOk result (λ ls. lines_of ls.items ≡ lines_after [] (spec.findings_by (map symbol_of symbols.now.items) (map numbered_of equations.now.items) (map names_of bound.now.items) (view.theory theory.now))) }
 {
     let plain = without_numbers(alloc, equations)?;
-    let mut lines = Vec::new(alloc);
+    let mut lines = Texts::new(alloc);
     tell_all(alloc, &mut lines, symbols, &plain, equations, bound, theory)?;
-    Ok(lines)
+    lines.into_vec(alloc)
 }
 
-/// The lines, each with a line feed behind it.
-fn text_of(alloc: Global, lines: &Vec<String>) -> Result<Vec<u8>, AllocError>
-    ensures { IfOk result (λ text. text.items ≡ spec.text_of (lines_of lines.now.items)) }
-{
-    let mut text = Vec::new(alloc);
-    for line in lines {
-        text.extend_from_slice(line.as_bytes())?;
-        text.extend_from_slice(b"\n")?;
-    }
-    Ok(text)
-}
-
-/// The report on a theory that declares these symbols and equations, and in which values stand for the names that are bound, and symbols for the
-/// names that are such: a line for each fatal finding, by the kind of finding, and then by the text. `bound` is what its items bind, as
-/// `sp_wf_rules::bound_in` says of the text as it is written. The report is empty exactly where there are no findings, as `report_is_right` says.
+/// Puts the lines at the end, each with a line feed behind it.
 ///
 /// # Errors
 ///
 /// `AllocError` where memory is wanting.
-pub fn report(
-    alloc: Global,
-    symbols: &Vec<Symbol>,
-    equations: &Vec<NumberedEquation>,
-    bound: &Vec<BoundNames>,
-    theory: &ReadTheory,
-) -> Result<Vec<u8>, AllocError>
-    ensures { IfOk result (λ text. text.items ≡ spec.text_about (spec.findings_by (map symbol_of symbols.now.items) (map numbered_of equations.now.items) (map names_of bound.now.items) (view.theory theory.now))) }
+pub fn write_lines(out: &mut Vec<u8>, lines: &Vec<String>) -> Result<(), AllocError>
+    ensures { OnOk result (out.new.items ≡ out.old.items ++ spec.text_of (lines_of lines.now.items)) }
 {
-    let lines = lines(alloc, symbols, equations, bound, theory)?;
-    let text = text_of(alloc, &lines)?;
-    Ok(text)
+    for line in lines {
+        out.extend_from_slice(line.as_bytes())?;
+        out.extend_from_slice(b"\n")?;
+    }
+    Ok(())
 }

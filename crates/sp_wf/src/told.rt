@@ -6,7 +6,7 @@ ghost use Rattle.sp_written.specs.Views as view;
 ghost use Rattle.sp_read_parts.specs.Views as parts;
 ghost use Rattle.sp_read_parts.specs.Formulas as written;
 ghost use Rattle.sp_finding.specs.Finding.{lines_after, two_sorts};
-ghost use Rattle.sp_finding.specs.View.{lines_of};
+ghost use Rattle.sp_lines.specs.TextsView.{texts_of};
 ghost use Rattle.sp_wf_rules.specs.BindingView.{names_of};
 ghost use Rattle.sp_wf_formulas.specs.Statements.{statement, item_statements, statements_in};
 ghost use Rattle.sp_wf.specs.ItemFindings as spec;
@@ -15,6 +15,7 @@ ghost use Rattle.sp_wf.specs.Told.{on_rule, on_bound, on_statement};
 use crate::names::tell_twice;
 use sp_fact::signature::Equation;
 use sp_finding::{Finding, RuleFinding, tell_if};
+use sp_lines::Texts;
 use sp_read_parts::{ReadFormula, WrittenRule};
 use sp_wf_formulas::{
     Sought, TermFault, tell_formula_destructors, tell_sought, tell_terms_of, tell_unguarded,
@@ -41,11 +42,11 @@ pub enum RuleFault<'a> {
 
 fn tell_on_rule(
     alloc: Global,
-    lines: &mut Vec<String>,
+    lines: &mut Texts,
     fault: RuleFault,
     rule: &WrittenRule,
 ) -> Result<(), AllocError>
-    ensures { OnOk result (lines_of lines.new.items ≡ lines_after (lines_of lines.old.items) (on_rule fault.entry (parts.rule rule.now))) }
+    ensures { OnOk result (texts_of lines.new ≡ lines_after (texts_of lines.old) (on_rule fault.entry (parts.rule rule.now))) }
 {
     match fault {
         RuleFault::Reserved => tell_reserved(alloc, lines, rule),
@@ -57,11 +58,11 @@ fn tell_on_rule(
 
 fn tell_if_rule(
     alloc: Global,
-    lines: &mut Vec<String>,
+    lines: &mut Texts,
     fault: RuleFault,
     item: &Item,
 ) -> Result<(), AllocError>
-    ensures { OnOk result (lines_of lines.new.items ≡ lines_after (lines_of lines.old.items) (spec.on_rules (on_rule fault.entry) (item_written (view.item item.now)))) }
+    ensures { OnOk result (texts_of lines.new ≡ lines_after (texts_of lines.old) (spec.on_rules (on_rule fault.entry) (item_written (view.item item.now)))) }
 {
     match item {
         Item::Rule(bound) => tell_on_rule(alloc, lines, fault, &bound.rule),
@@ -72,11 +73,11 @@ fn tell_if_rule(
 /// Tells of what is looked for, in each rule.
 pub fn tell_rules(
     alloc: Global,
-    lines: &mut Vec<String>,
+    lines: &mut Texts,
     fault: RuleFault,
     items: &Vec<Item>,
 ) -> Result<(), AllocError>
-    ensures { OnOk result (lines_of lines.new.items ≡ lines_after (lines_of lines.old.items) (spec.on_rules (on_rule fault.entry) (rules_written (view.items items.now.items)))) }
+    ensures { OnOk result (texts_of lines.new ≡ lines_after (texts_of lines.old) (spec.on_rules (on_rule fault.entry) (rules_written (view.items items.now.items)))) }
 {
     for item in items {
         tell_if_rule(alloc, lines, fault, item)?;
@@ -99,11 +100,11 @@ pub enum BindingFault {
 #[tactic(auto, using(sp_finding::proofs::Telling::told_on))]
 fn tell_misused(
     alloc: Global,
-    lines: &mut Vec<String>,
+    lines: &mut Texts,
     rule: &str,
     bound: &BoundNames,
 ) -> Result<(), AllocError>
-    ensures { OnOk result (lines_of lines.new.items ≡ lines_after (lines_of lines.old.items) (map (two_sorts rule.now) (names_of bound.now).misused)) }
+    ensures { OnOk result (texts_of lines.new ≡ lines_after (texts_of lines.old) (map (two_sorts rule.now) (names_of bound.now).misused)) }
 {
     for name in &bound.misused {
         let finding = Finding::OnRule(rule, RuleFinding::TwoSorts(*name));
@@ -116,11 +117,11 @@ fn tell_misused(
 #[tactic(auto, using(sp_finding::proofs::Telling::one_behind))]
 fn tell_marks(
     alloc: Global,
-    lines: &mut Vec<String>,
+    lines: &mut Texts,
     bound: &BoundNames,
     rule: &WrittenRule,
 ) -> Result<(), AllocError>
-    ensures { OnOk result (lines_of lines.new.items ≡ lines_after (lines_of lines.old.items) (spec.marks_in_rule (names_of bound.now) (parts.rule rule.now))) }
+    ensures { OnOk result (texts_of lines.new ≡ lines_after (texts_of lines.old) (spec.marks_in_rule (names_of bound.now) (parts.rule rule.now))) }
 {
     tell_sorts(alloc, lines, rule)?;
     tell_misused(alloc, lines, rule.name, bound)
@@ -128,12 +129,12 @@ fn tell_marks(
 
 fn tell_on_bound(
     alloc: Global,
-    lines: &mut Vec<String>,
+    lines: &mut Texts,
     fault: BindingFault,
     bound: &BoundNames,
     rule: &WrittenRule,
 ) -> Result<(), AllocError>
-    ensures { OnOk result (lines_of lines.new.items ≡ lines_after (lines_of lines.old.items) (on_bound fault (names_of bound.now) (parts.rule rule.now))) }
+    ensures { OnOk result (texts_of lines.new ≡ lines_after (texts_of lines.old) (on_bound fault (names_of bound.now) (parts.rule rule.now))) }
 {
     match fault {
         BindingFault::Twice => tell_twice(alloc, lines, rule.name, bound),
@@ -143,12 +144,12 @@ fn tell_on_bound(
 
 fn tell_if_bound(
     alloc: Global,
-    lines: &mut Vec<String>,
+    lines: &mut Texts,
     fault: BindingFault,
     bound: &BoundNames,
     item: &Item,
 ) -> Result<(), AllocError>
-    ensures { OnOk result (lines_of lines.new.items ≡ lines_after (lines_of lines.old.items) (spec.on_rules (on_bound fault (names_of bound.now)) (item_written (view.item item.now)))) }
+    ensures { OnOk result (texts_of lines.new ≡ lines_after (texts_of lines.old) (spec.on_rules (on_bound fault (names_of bound.now)) (item_written (view.item item.now)))) }
 {
     match item {
         Item::Rule(rule) => tell_on_bound(alloc, lines, fault, bound, &rule.rule),
@@ -159,12 +160,12 @@ fn tell_if_bound(
 /// Tells of what is looked for, in each rule with what it binds; these are what the items bind, one for each.
 pub fn tell_bound(
     alloc: Global,
-    lines: &mut Vec<String>,
+    lines: &mut Texts,
     fault: BindingFault,
     bound: &Vec<BoundNames>,
     items: &Vec<Item>,
 ) -> Result<(), AllocError>
-    ensures { OnOk result (lines_of lines.new.items ≡ lines_after (lines_of lines.old.items) (spec.with_bound (on_bound fault) (map names_of bound.now.items) (view.items items.now.items))) }
+    ensures { OnOk result (texts_of lines.new ≡ lines_after (texts_of lines.old) (spec.with_bound (on_bound fault) (map names_of bound.now.items) (view.items items.now.items))) }
 {
     for (place, item) in items.iter().enumerate() {
         if let Some(names) = bound.get(place) {
@@ -191,12 +192,12 @@ pub enum FormulaFault<'a> {
 #[tactic(auto, using(sp_wf_formulas::proofs::Formulas::sought_unbound, sp_wf_formulas::proofs::Formulas::sought_other, sp_wf_formulas::proofs::Formulas::sought_mixed))]
 fn tell_on_statement<'a>(
     alloc: Global,
-    lines: &mut Vec<String>,
+    lines: &mut Texts,
     fault: FormulaFault,
     name: &'a str,
     formula: &ReadFormula<'a>,
 ) -> Result<(), AllocError>
-    ensures { OnOk result (lines_of lines.new.items ≡ lines_after (lines_of lines.old.items) (on_statement fault.entry (statement name.now (written.formula formula.now)))) }
+    ensures { OnOk result (texts_of lines.new ≡ lines_after (texts_of lines.old) (on_statement fault.entry (statement name.now (written.formula formula.now)))) }
 {
     match fault {
         FormulaFault::Unbound => tell_sought(alloc, lines, Sought::Unbound, name, formula),
@@ -214,11 +215,11 @@ fn tell_on_statement<'a>(
 #[tactic(auto, using(crate::proofs::ItemKinds::as_statement))]
 fn tell_if_statement(
     alloc: Global,
-    lines: &mut Vec<String>,
+    lines: &mut Texts,
     fault: FormulaFault,
     item: &Item,
 ) -> Result<(), AllocError>
-    ensures { OnOk result (lines_of lines.new.items ≡ lines_after (lines_of lines.old.items) (spec.on_lemmas (on_statement fault.entry) (item_statements (view.item item.now)))) }
+    ensures { OnOk result (texts_of lines.new ≡ lines_after (texts_of lines.old) (spec.on_lemmas (on_statement fault.entry) (item_statements (view.item item.now)))) }
 {
     match item {
         Item::Restriction(restriction) => {
@@ -232,11 +233,11 @@ fn tell_if_statement(
 /// Tells of what is looked for, in each restriction and each lemma.
 pub fn tell_statements(
     alloc: Global,
-    lines: &mut Vec<String>,
+    lines: &mut Texts,
     fault: FormulaFault,
     items: &Vec<Item>,
 ) -> Result<(), AllocError>
-    ensures { OnOk result (lines_of lines.new.items ≡ lines_after (lines_of lines.old.items) (spec.on_lemmas (on_statement fault.entry) (statements_in (view.items items.now.items)))) }
+    ensures { OnOk result (texts_of lines.new ≡ lines_after (texts_of lines.old) (spec.on_lemmas (on_statement fault.entry) (statements_in (view.items items.now.items)))) }
 {
     for item in items {
         tell_if_statement(alloc, lines, fault, item)?;
@@ -246,8 +247,8 @@ pub fn tell_statements(
 
 // ---- too many arguments
 
-fn tell_wide_item(alloc: Global, lines: &mut Vec<String>, item: &Item) -> Result<(), AllocError>
-    ensures { OnOk result (lines_of lines.new.items ≡ lines_after (lines_of lines.old.items) (spec.wide_in_item (view.item item.now))) }
+fn tell_wide_item(alloc: Global, lines: &mut Texts, item: &Item) -> Result<(), AllocError>
+    ensures { OnOk result (texts_of lines.new ≡ lines_after (texts_of lines.old) (spec.wide_in_item (view.item item.now))) }
 {
     match item {
         Item::Functions(symbols) => tell_wide_symbols(alloc, lines, symbols),
@@ -261,12 +262,8 @@ fn tell_wide_item(alloc: Global, lines: &mut Vec<String>, item: &Item) -> Result
 }
 
 /// Tells of symbols, facts and actions that have too many arguments, in functions, rules, restrictions and lemmas alike.
-pub fn tell_arities(
-    alloc: Global,
-    lines: &mut Vec<String>,
-    items: &Vec<Item>,
-) -> Result<(), AllocError>
-    ensures { OnOk result (lines_of lines.new.items ≡ lines_after (lines_of lines.old.items) (spec.wide_in_items (view.items items.now.items))) }
+pub fn tell_arities(alloc: Global, lines: &mut Texts, items: &Vec<Item>) -> Result<(), AllocError>
+    ensures { OnOk result (texts_of lines.new ≡ lines_after (texts_of lines.old) (spec.wide_in_items (view.items items.now.items))) }
 {
     for item in items {
         tell_wide_item(alloc, lines, item)?;

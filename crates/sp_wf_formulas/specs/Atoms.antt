@@ -1,13 +1,13 @@
 -- One kind of finding on the atoms of a formula, as the code looks for it.
-use Rattle.std.specs.Prelude.{Bool, false, ◌||◌, List, [], ◌∷◌, ◌++◌, map}
+use Rattle.std.specs.Prelude.{Bool, false, ◌||◌, List, [], ◌∷◌, ◌++◌}
 use Rattle.sp_spec.specs.Term.{Term}
 use Rattle.sp_spec.specs.Signature.{Symbol, Equation}
 use Rattle.sp_spec.specs.Rule.{Action}
 use Rattle.sp_spec.specs.Formula.{Written, Formula}
 use Rattle.sp_spec.specs.Written.{in_term, in_terms}
 use Rattle.sp_spec.specs.Findings.{is_wide}
-use Rattle.sp_fact.specs.GroundView.{symbol_of}
 use Rattle.sp_finding.specs.Finding.{Finding, arity_above, told}
+use Rattle.sp_finding.specs.KnownView.{symbols_of}
 use Rattle.sp_finding.specs.TermFindings.{unknown_in, unknown_in_all, has_destructor, have_destructor}
 use Rattle.sp_law_guard.specs.GuardedForm.{term_time}
 use Rattle.sp_walk.specs.Atoms.{Atom, happens, equals, precedes, collected}
@@ -22,7 +22,7 @@ pub data Fault : Type 0 where
 
 abbrev pub fault_of : TermFault → Fault
 fault_of f.Wide = too_wide
-fault_of (f.Unknown symbols) = unknown (map symbol_of symbols.now.items)
+fault_of (f.Unknown symbols) = unknown (symbols_of symbols.now)
 
 abbrev pub on_action : Fault → Action Written → List Finding
 on_action too_wide a = told (is_wide a.args) (arity_above a.symbol) []

@@ -7,10 +7,10 @@ ghost use Rattle.sp_wf_formulas.specs.Atoms as spec;
 ghost use Rattle.sp_finding.proofs.Telling.{told_both, both_orders};
 ghost use Rattle.sp_finding.specs.Finding as findings;
 ghost use Rattle.sp_finding.specs.Finding.{lines_after};
-ghost use Rattle.sp_finding.specs.View.{lines_of};
+ghost use Rattle.sp_lines.specs.TextsView.{texts_of};
 
-use sp_fact::signature::Symbol;
-use sp_finding::{Finding, are_too_many, tell_if, tell_unknown, tell_unknown_in_all};
+use sp_finding::{Finding, KnownSymbols, are_too_many, tell_if, tell_unknown, tell_unknown_in_all};
+use sp_lines::Texts;
 use sp_read_parts::{ReadFormula, WrittenAction, WrittenTerm, WrittenVariable};
 use sp_walk::{Collects, ReadAtom, collect_closed};
 use std::alloc::{AllocError, Global};
@@ -21,17 +21,17 @@ pub enum TermFault<'a> {
     /// an action has too many arguments
     Wide,
     /// a symbol is none of these
-    Unknown(&'a Vec<Symbol>),
+    Unknown(&'a KnownSymbols<'a>),
 }
 
 /// Tells of what is looked for, in the arguments of an action.
 fn tell_action(
     alloc: Global,
-    lines: &mut Vec<String>,
+    lines: &mut Texts,
     fault: TermFault,
     action: &WrittenAction,
 ) -> Result<(), AllocError>
-    ensures { OnOk result (lines_of lines.new.items ≡ lines_after (lines_of lines.old.items) (spec.on_action (spec.fault_of fault.entry) (parts.action_of action.now))) }
+    ensures { OnOk result (texts_of lines.new ≡ lines_after (texts_of lines.old) (spec.on_action (spec.fault_of fault.entry) (parts.action_of action.now))) }
 {
     match fault {
         TermFault::Wide => {
@@ -47,12 +47,12 @@ fn tell_action(
 #[tactic(auto, using(sp_finding::proofs::Telling::told_both))]
 fn tell_sides(
     alloc: Global,
-    lines: &mut Vec<String>,
+    lines: &mut Texts,
     fault: TermFault,
     left: &WrittenTerm,
     right: &WrittenTerm,
 ) -> Result<(), AllocError>
-    ensures { OnOk result (lines_of lines.new.items ≡ lines_after (lines_of lines.old.items) (spec.on_sides (spec.fault_of fault.entry) (parts.term left.now) (parts.term right.now))) }
+    ensures { OnOk result (texts_of lines.new ≡ lines_after (texts_of lines.old) (spec.on_sides (spec.fault_of fault.entry) (parts.term left.now) (parts.term right.now))) }
 {
     match fault {
         TermFault::Wide => Ok(()),
@@ -65,12 +65,12 @@ fn tell_sides(
 }
 
 // What is told of an atom, whatever binds its variables.
-impl<'f> Collects<Vec<String>> for TermFault<'f> {
+impl<'f> Collects<Texts> for TermFault<'f> {
     ghost Item = { findings.Finding };
 
     ghost Seen = { List (List ℕ) };
 
-    ghost seen_of = { λ lines. lines_of lines.items };
+    ghost seen_of = { λ lines. texts_of lines };
 
     ghost gives = { λ t bs. spec.on_atom (spec.fault_of t) };
 
@@ -79,7 +79,7 @@ impl<'f> Collects<Vec<String>> for TermFault<'f> {
     fn collect<'a>(
         &self,
         alloc: Global,
-        lines: &mut Vec<String>,
+        lines: &mut Texts,
         _binders: &Vec<WrittenVariable<'a>>,
         atom: ReadAtom<'_, 'a>,
     ) -> Result<(), AllocError> {
@@ -104,11 +104,11 @@ impl<'f> Collects<Vec<String>> for TermFault<'f> {
 /// `AllocError` where memory is wanting.
 pub fn tell_terms_of(
     alloc: Global,
-    lines: &mut Vec<String>,
+    lines: &mut Texts,
     fault: TermFault,
     formula: &ReadFormula,
 ) -> Result<(), AllocError>
-    ensures { OnOk result (lines_of lines.new.items ≡ lines_after (lines_of lines.old.items) (spec.on_terms (spec.fault_of fault.entry) (written.formula formula.now))) }
+    ensures { OnOk result (texts_of lines.new ≡ lines_after (texts_of lines.old) (spec.on_terms (spec.fault_of fault.entry) (written.formula formula.now))) }
 {
     collect_closed(alloc, &fault, lines, formula)
 }

@@ -6,13 +6,14 @@ ghost use Rattle.sp_read_parts.specs.Views as parts;
 ghost use Rattle.sp_read_parts.specs.Formulas as written;
 ghost use Rattle.sp_finding.specs.Finding.{lines_after};
 ghost use Rattle.sp_finding.specs.TermFindings.{has_destructor};
-ghost use Rattle.sp_finding.specs.View.{lines_of};
+ghost use Rattle.sp_lines.specs.TextsView.{texts_of};
 ghost use Rattle.sp_wf_formulas.specs.Atoms.{atom_has_destructor};
 ghost use Rattle.sp_wf_formulas.specs.FormulaFindings as spec;
 ghost use Rattle.sp_wf_formulas.specs.Statements.{statement};
 
 use sp_fact::signature::Equation;
 use sp_finding::{Finding, FormulaFinding, has_destructor, have_destructor, tell_if};
+use sp_lines::Texts;
 use sp_read_parts::{ReadFormula, WrittenTerm};
 use sp_walk::{ReadAtom, TestsAtoms, any_atom};
 use std::alloc::{AllocError, Global};
@@ -57,12 +58,12 @@ pub fn formula_has_destructor(equations: &Vec<Equation>, formula: &ReadFormula) 
 /// `AllocError` where memory is wanting.
 pub fn tell_formula_destructors(
     alloc: Global,
-    lines: &mut Vec<String>,
+    lines: &mut Texts,
     equations: &Vec<Equation>,
     name: &str,
     formula: &ReadFormula,
 ) -> Result<(), AllocError>
-    ensures { OnOk result (lines_of lines.new.items ≡ lines_after (lines_of lines.old.items) (spec.destructors_in_lemma (map equation_of equations.now.items) (statement name.now (written.formula formula.now)))) }
+    ensures { OnOk result (texts_of lines.new ≡ lines_after (texts_of lines.old) (spec.destructors_in_lemma (map equation_of equations.now.items) (statement name.now (written.formula formula.now)))) }
 {
     let is_wrong = formula_has_destructor(equations, formula);
     let finding = Finding::OnFormula(name, FormulaFinding::Destructor);

@@ -8,7 +8,7 @@ ghost use Rattle.sp_law_guard.specs.CheckedForm as checked;
 ghost use Rattle.sp_guard.specs.View.{innermost_first};
 ghost use Rattle.sp_guard.specs.FirstNamed.{name_of};
 ghost use Rattle.sp_finding.specs.Finding.{lines_after};
-ghost use Rattle.sp_finding.specs.View.{lines_of};
+ghost use Rattle.sp_lines.specs.TextsView.{texts_of};
 ghost use Rattle.sp_wf_formulas.specs.FormulaFindings as spec;
 ghost use Rattle.sp_wf_formulas.specs.Sought.{sought, sought_view, is_there};
 ghost use Rattle.sp_wf_formulas.specs.Statements.{statement};
@@ -20,6 +20,7 @@ use sp_finding::{Finding, FormulaFinding, tell_if};
 use sp_guard::form::guarded_form;
 use sp_guard::marks::marks_fit;
 use sp_guard::unguarded::first_unguarded;
+use sp_lines::Texts;
 use sp_read_parts::{ReadFormula, WrittenVariable};
 use sp_walk::collect_closed;
 use std::alloc::{AllocError, Global};
@@ -31,12 +32,12 @@ use std::alloc::{AllocError, Global};
 /// `AllocError` where memory is wanting.
 pub fn tell_sought<'a>(
     alloc: Global,
-    lines: &mut Vec<String>,
+    lines: &mut Texts,
     wanted: Sought,
     name: &'a str,
     formula: &ReadFormula<'a>,
 ) -> Result<(), AllocError>
-    ensures { OnOk result (lines_of lines.new.items ≡ lines_after (lines_of lines.old.items) (sought (sought_view wanted) name.now (spec.uses [] (written.formula formula.now)))) }
+    ensures { OnOk result (texts_of lines.new ≡ lines_after (texts_of lines.old) (sought (sought_view wanted) name.now (spec.uses [] (written.formula formula.now)))) }
 {
     let search = Search {
         sought: wanted,
@@ -71,11 +72,11 @@ fn is_used_rightly(alloc: Global, formula: &ReadFormula) -> Result<bool, AllocEr
 /// Tells of a variable that isn't guarded.
 fn tell_name<'a>(
     alloc: Global,
-    lines: &mut Vec<String>,
+    lines: &mut Texts,
     formula: &'a str,
     name: Option<&'a str>,
 ) -> Result<(), AllocError>
-    ensures { OnOk result (lines_of lines.new.items ≡ lines_after (lines_of lines.old.items) (spec.unguarded_at formula.now (name_of name.entry))) }
+    ensures { OnOk result (texts_of lines.new ≡ lines_after (texts_of lines.old) (spec.unguarded_at formula.now (name_of name.entry))) }
 {
     match name {
         Some(name) => {
@@ -108,12 +109,12 @@ fn is_searched(
 #[tactic(auto, using(crate::proofs::Formulas::unguarded_told))]
 pub fn tell_unguarded<'a>(
     alloc: Global,
-    lines: &mut Vec<String>,
+    lines: &mut Texts,
     equations: &Vec<Equation>,
     name: &'a str,
     formula: &ReadFormula<'a>,
 ) -> Result<(), AllocError>
-    ensures { OnOk result (lines_of lines.new.items ≡ lines_after (lines_of lines.old.items) (spec.unguarded_in_lemma (map equation_of equations.now.items) (statement name.now (written.formula formula.now)))) }
+    ensures { OnOk result (texts_of lines.new ≡ lines_after (texts_of lines.old) (spec.unguarded_in_lemma (map equation_of equations.now.items) (statement name.now (written.formula formula.now)))) }
 {
     let is_searched = is_searched(alloc, equations, formula)?;
     if !is_searched {

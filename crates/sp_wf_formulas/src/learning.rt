@@ -2,11 +2,12 @@
 
 ghost use Rattle.std.specs.Prelude.{◌≡◌, OnOk};
 ghost use Rattle.sp_finding.specs.Finding.{lines_after};
-ghost use Rattle.sp_finding.specs.View.{lines_of};
+ghost use Rattle.sp_lines.specs.TextsView.{texts_of};
 ghost use Rattle.sp_written.specs.Views as view;
 ghost use Rattle.sp_wf_formulas.specs.FormulaFindings as spec;
 
 use sp_finding::{Finding, names_learning, tell_if};
+use sp_lines::Texts;
 use sp_written::WrittenRestriction;
 use std::alloc::{AllocError, Global};
 
@@ -17,10 +18,10 @@ use std::alloc::{AllocError, Global};
 /// `AllocError` where memory is wanting.
 pub fn tell_learning(
     alloc: Global,
-    lines: &mut Vec<String>,
+    lines: &mut Texts,
     restriction: &WrittenRestriction,
 ) -> Result<(), AllocError>
-    ensures { OnOk result (lines_of lines.new.items ≡ lines_after (lines_of lines.old.items) (spec.learning_in_restriction (view.restriction restriction.now))) }
+    ensures { OnOk result (texts_of lines.new ≡ lines_after (texts_of lines.old) (spec.learning_in_restriction (view.restriction restriction.now))) }
 {
     let is_wrong = names_learning(&restriction.formula);
     tell_if(

@@ -12,10 +12,12 @@ ghost use Rattle.sp_finding.specs.Finding as findings;
 ghost use Rattle.sp_finding.specs.Finding.{lines_after};
 ghost use Rattle.sp_wf_formulas.specs.Atoms.{uses_at};
 ghost use Rattle.sp_wf_formulas.specs.Sought.{is_sought, said, sought, is_there, role_view, sought_view, used};
-ghost use Rattle.sp_finding.specs.View.{finding_of, lines_of};
+ghost use Rattle.sp_finding.specs.View.{finding_of};
+ghost use Rattle.sp_lines.specs.TextsView.{texts_of};
 
 use sp_finding::{Finding, FormulaFinding, tell_if};
 use sp_guard::meaning::{Meaning, meant};
+use sp_lines::Texts;
 use sp_read_parts::{Mark, WrittenAction, WrittenTerm, WrittenVariable};
 use sp_term::term::Term;
 use sp_walk::{Collects, ReadAtom};
@@ -107,13 +109,13 @@ fn finding_at<'a>(search: Search<'a>, name: &'a str) -> Finding<'a>
 /// Tells of the variable, used in this role within the reach of these binders.
 fn tell_use(
     alloc: Global,
-    lines: &mut Vec<String>,
+    lines: &mut Texts,
     search: Search,
     binders: &Vec<WrittenVariable>,
     role: Role,
     variable: WrittenVariable,
 ) -> Result<(), AllocError>
-    ensures { OnOk result (lines_of lines.new.items ≡ lines_after (lines_of lines.old.items) (used (sought_view search.entry.sought) search.entry.formula.now (role_view role) (innermost_first binders.now.items) (view.variable variable.entry ∷ []))) }
+    ensures { OnOk result (texts_of lines.new ≡ lines_after (texts_of lines.old) (used (sought_view search.entry.sought) search.entry.formula.now (role_view role) (innermost_first binders.now.items) (view.variable variable.entry ∷ []))) }
 {
     let meaning = meant(binders, variable.name);
     let stands = stands_at(search.sought, role, variable.mark, meaning);
@@ -124,13 +126,13 @@ fn tell_use(
 #[cycle(terms)]
 fn tell_term(
     alloc: Global,
-    lines: &mut Vec<String>,
+    lines: &mut Texts,
     search: Search,
     binders: &Vec<WrittenVariable>,
     role: Role,
     term: &WrittenTerm,
 ) -> Result<(), AllocError>
-    ensures { OnOk result (lines_of lines.new.items ≡ lines_after (lines_of lines.old.items) (used (sought_view search.entry.sought) search.entry.formula.now (role_view role) (innermost_first binders.now.items) (in_term (view.term term.now)))) }
+    ensures { OnOk result (texts_of lines.new ≡ lines_after (texts_of lines.old) (used (sought_view search.entry.sought) search.entry.formula.now (role_view role) (innermost_first binders.now.items) (in_term (view.term term.now)))) }
 {
     match term {
         Term::Var(variable) => tell_use(alloc, lines, search, binders, role, *variable),
@@ -143,13 +145,13 @@ fn tell_term(
 #[cycle(terms)]
 fn tell_terms(
     alloc: Global,
-    lines: &mut Vec<String>,
+    lines: &mut Texts,
     search: Search,
     binders: &Vec<WrittenVariable>,
     role: Role,
     terms: &Vec<WrittenTerm>,
 ) -> Result<(), AllocError>
-    ensures { OnOk result (lines_of lines.new.items ≡ lines_after (lines_of lines.old.items) (used (sought_view search.entry.sought) search.entry.formula.now (role_view role) (innermost_first binders.now.items) (in_terms (view.terms terms.now.items)))) }
+    ensures { OnOk result (texts_of lines.new ≡ lines_after (texts_of lines.old) (used (sought_view search.entry.sought) search.entry.formula.now (role_view role) (innermost_first binders.now.items) (in_terms (view.terms terms.now.items)))) }
 {
     for term in terms {
         tell_term(alloc, lines, search, binders, role, term)?;
@@ -160,13 +162,13 @@ fn tell_terms(
 /// Tells of the variables of an action and of its time.
 fn tell_happening(
     alloc: Global,
-    lines: &mut Vec<String>,
+    lines: &mut Texts,
     search: Search,
     binders: &Vec<WrittenVariable>,
     action: &WrittenAction,
     at: WrittenVariable,
 ) -> Result<(), AllocError>
-    ensures { OnOk result (lines_of lines.new.items ≡ lines_after (lines_of lines.old.items) (sought (sought_view search.entry.sought) search.entry.formula.now (spec.uses_as spec.as_message (innermost_first binders.now.items) (in_terms (view.terms action.now.args.items)) ++ spec.uses_as spec.as_time (innermost_first binders.now.items) (view.variable at.entry ∷ [])))) }
+    ensures { OnOk result (texts_of lines.new ≡ lines_after (texts_of lines.old) (sought (sought_view search.entry.sought) search.entry.formula.now (spec.uses_as spec.as_message (innermost_first binders.now.items) (in_terms (view.terms action.now.args.items)) ++ spec.uses_as spec.as_time (innermost_first binders.now.items) (view.variable at.entry ∷ [])))) }
 {
     tell_terms(alloc, lines, search, binders, Role::Message, &action.args)?;
     tell_use(alloc, lines, search, binders, Role::Time, at)?;
@@ -177,13 +179,13 @@ fn tell_happening(
 #[tactic(auto, using(sp_finding::proofs::Telling::told_on))]
 fn tell_order(
     alloc: Global,
-    lines: &mut Vec<String>,
+    lines: &mut Texts,
     search: Search,
     binders: &Vec<WrittenVariable>,
     left: WrittenVariable,
     right: WrittenVariable,
 ) -> Result<(), AllocError>
-    ensures { OnOk result (lines_of lines.new.items ≡ lines_after (lines_of lines.old.items) (used (sought_view search.entry.sought) search.entry.formula.now spec.as_time (innermost_first binders.now.items) (view.variable left.entry ∷ view.variable right.entry ∷ []))) }
+    ensures { OnOk result (texts_of lines.new ≡ lines_after (texts_of lines.old) (used (sought_view search.entry.sought) search.entry.formula.now spec.as_time (innermost_first binders.now.items) (view.variable left.entry ∷ view.variable right.entry ∷ []))) }
 {
     tell_use(alloc, lines, search, binders, Role::Time, left)?;
     tell_use(alloc, lines, search, binders, Role::Time, right)?;
@@ -218,13 +220,13 @@ fn role_of(binders: &Vec<WrittenVariable>, left: &WrittenTerm, right: &WrittenTe
 #[tactic(auto, using(crate::proofs::Using::used_on))]
 fn tell_equation(
     alloc: Global,
-    lines: &mut Vec<String>,
+    lines: &mut Texts,
     search: Search,
     binders: &Vec<WrittenVariable>,
     left: &WrittenTerm,
     right: &WrittenTerm,
 ) -> Result<(), AllocError>
-    ensures { OnOk result (lines_of lines.new.items ≡ lines_after (lines_of lines.old.items) (used (sought_view search.entry.sought) search.entry.formula.now (spec.role_of (forms.term_time (innermost_first binders.now.items) (view.term left.now)) (forms.term_time (innermost_first binders.now.items) (view.term right.now))) (innermost_first binders.now.items) (in_term (view.term left.now) ++ in_term (view.term right.now)))) }
+    ensures { OnOk result (texts_of lines.new ≡ lines_after (texts_of lines.old) (used (sought_view search.entry.sought) search.entry.formula.now (spec.role_of (forms.term_time (innermost_first binders.now.items) (view.term left.now)) (forms.term_time (innermost_first binders.now.items) (view.term right.now))) (innermost_first binders.now.items) (in_term (view.term left.now) ++ in_term (view.term right.now)))) }
 {
     let role = role_of(binders, left, right);
     tell_term(alloc, lines, search, binders, role, left)?;
@@ -233,12 +235,12 @@ fn tell_equation(
 }
 
 // What is told of the variables of an atom.
-impl<'s> Collects<Vec<String>> for Search<'s> {
+impl<'s> Collects<Texts> for Search<'s> {
     ghost Item = { findings.Finding };
 
     ghost Seen = { List (List ℕ) };
 
-    ghost seen_of = { λ lines. lines_of lines.items };
+    ghost seen_of = { λ lines. texts_of lines };
 
     ghost gives = { λ t bs a. sought (sought_view t.sought) t.formula.now (uses_at bs a) };
 
@@ -247,7 +249,7 @@ impl<'s> Collects<Vec<String>> for Search<'s> {
     fn collect<'a>(
         &self,
         alloc: Global,
-        lines: &mut Vec<String>,
+        lines: &mut Texts,
         binders: &Vec<WrittenVariable<'a>>,
         atom: ReadAtom<'_, 'a>,
     ) -> Result<(), AllocError> {

@@ -5,12 +5,13 @@ ghost use Rattle.sp_read_parts.specs.Views as view;
 ghost use Rattle.sp_read_parts.specs.Views.{action_of, facts_of};
 ghost use Rattle.sp_wf_rules.specs.RuleFindings as spec;
 ghost use Rattle.sp_finding.specs.Finding.{lines_after};
-ghost use Rattle.sp_finding.specs.View.{lines_of};
+ghost use Rattle.sp_lines.specs.TextsView.{texts_of};
 
 use sp_finding::{
     Finding, RuleFinding, are_too_many, is_fr, is_fresh_variable, is_one, is_wrong_action,
     is_wrong_conclusion, is_wrong_premise, tell_if,
 };
+use sp_lines::Texts;
 use sp_read_parts::{WrittenAction, WrittenFact, WrittenRule};
 use std::alloc::{AllocError, Global};
 
@@ -18,10 +19,10 @@ use std::alloc::{AllocError, Global};
 #[tactic(auto, using(sp_finding::proofs::Telling::told_on))]
 fn tell_wide_facts(
     alloc: Global,
-    lines: &mut Vec<String>,
+    lines: &mut Texts,
     facts: &Vec<WrittenFact>,
 ) -> Result<(), AllocError>
-    ensures { OnOk result (lines_of lines.new.items ≡ lines_after (lines_of lines.old.items) (spec.wide_facts (facts_of facts.now.items))) }
+    ensures { OnOk result (texts_of lines.new ≡ lines_after (texts_of lines.old) (spec.wide_facts (facts_of facts.now.items))) }
 {
     for fact in facts {
         let is_wrong = are_too_many(&fact.args);
@@ -35,10 +36,10 @@ fn tell_wide_facts(
 #[tactic(auto, using(sp_finding::proofs::Telling::told_on))]
 fn tell_wide_actions(
     alloc: Global,
-    lines: &mut Vec<String>,
+    lines: &mut Texts,
     actions: &Vec<WrittenAction>,
 ) -> Result<(), AllocError>
-    ensures { OnOk result (lines_of lines.new.items ≡ lines_after (lines_of lines.old.items) (spec.wide_actions (map action_of actions.now.items))) }
+    ensures { OnOk result (texts_of lines.new ≡ lines_after (texts_of lines.old) (spec.wide_actions (map action_of actions.now.items))) }
 {
     for action in actions {
         let is_wrong = are_too_many(&action.args);
@@ -54,12 +55,8 @@ fn tell_wide_actions(
 ///
 /// `AllocError` where memory is wanting.
 #[tactic(auto, using(sp_finding::proofs::Telling::told_three))]
-pub fn tell_wide(
-    alloc: Global,
-    lines: &mut Vec<String>,
-    rule: &WrittenRule,
-) -> Result<(), AllocError>
-    ensures { OnOk result (lines_of lines.new.items ≡ lines_after (lines_of lines.old.items) (spec.wide_in_rule (view.rule rule.now))) }
+pub fn tell_wide(alloc: Global, lines: &mut Texts, rule: &WrittenRule) -> Result<(), AllocError>
+    ensures { OnOk result (texts_of lines.new ≡ lines_after (texts_of lines.old) (spec.wide_in_rule (view.rule rule.now))) }
 {
     tell_wide_facts(alloc, lines, &rule.facts.premises)?;
     tell_wide_actions(alloc, lines, &rule.facts.actions)?;
@@ -70,11 +67,11 @@ pub fn tell_wide(
 #[tactic(auto, using(sp_finding::proofs::Telling::told_on))]
 fn tell_premises(
     alloc: Global,
-    lines: &mut Vec<String>,
+    lines: &mut Texts,
     rule: &str,
     premises: &Vec<WrittenFact>,
 ) -> Result<(), AllocError>
-    ensures { OnOk result (lines_of lines.new.items ≡ lines_after (lines_of lines.old.items) (spec.wrong_premises rule.now (facts_of premises.now.items))) }
+    ensures { OnOk result (texts_of lines.new ≡ lines_after (texts_of lines.old) (spec.wrong_premises rule.now (facts_of premises.now.items))) }
 {
     for fact in premises {
         let is_wrong = is_wrong_premise(fact);
@@ -88,11 +85,11 @@ fn tell_premises(
 #[tactic(auto, using(sp_finding::proofs::Telling::told_on))]
 fn tell_actions(
     alloc: Global,
-    lines: &mut Vec<String>,
+    lines: &mut Texts,
     rule: &str,
     actions: &Vec<WrittenAction>,
 ) -> Result<(), AllocError>
-    ensures { OnOk result (lines_of lines.new.items ≡ lines_after (lines_of lines.old.items) (spec.wrong_actions rule.now (map action_of actions.now.items))) }
+    ensures { OnOk result (texts_of lines.new ≡ lines_after (texts_of lines.old) (spec.wrong_actions rule.now (map action_of actions.now.items))) }
 {
     for action in actions {
         let is_wrong = is_wrong_action(action);
@@ -106,11 +103,11 @@ fn tell_actions(
 #[tactic(auto, using(sp_finding::proofs::Telling::told_on))]
 fn tell_conclusions(
     alloc: Global,
-    lines: &mut Vec<String>,
+    lines: &mut Texts,
     rule: &str,
     conclusions: &Vec<WrittenFact>,
 ) -> Result<(), AllocError>
-    ensures { OnOk result (lines_of lines.new.items ≡ lines_after (lines_of lines.old.items) (spec.wrong_conclusions rule.now (facts_of conclusions.now.items))) }
+    ensures { OnOk result (texts_of lines.new ≡ lines_after (texts_of lines.old) (spec.wrong_conclusions rule.now (facts_of conclusions.now.items))) }
 {
     for fact in conclusions {
         let is_wrong = is_wrong_conclusion(fact);
@@ -126,12 +123,8 @@ fn tell_conclusions(
 ///
 /// `AllocError` where memory is wanting.
 #[tactic(auto, using(sp_finding::proofs::Telling::told_three))]
-pub fn tell_reserved(
-    alloc: Global,
-    lines: &mut Vec<String>,
-    rule: &WrittenRule,
-) -> Result<(), AllocError>
-    ensures { OnOk result (lines_of lines.new.items ≡ lines_after (lines_of lines.old.items) (spec.reserved_in_rule (view.rule rule.now))) }
+pub fn tell_reserved(alloc: Global, lines: &mut Texts, rule: &WrittenRule) -> Result<(), AllocError>
+    ensures { OnOk result (texts_of lines.new ≡ lines_after (texts_of lines.old) (spec.reserved_in_rule (view.rule rule.now))) }
 {
     tell_premises(alloc, lines, rule.name, &rule.facts.premises)?;
     tell_actions(alloc, lines, rule.name, &rule.facts.actions)?;
@@ -146,10 +139,10 @@ pub fn tell_reserved(
 #[tactic(auto, using(sp_finding::proofs::Telling::told_on))]
 pub fn tell_arguments(
     alloc: Global,
-    lines: &mut Vec<String>,
+    lines: &mut Texts,
     rule: &WrittenRule,
 ) -> Result<(), AllocError>
-    ensures { OnOk result (lines_of lines.new.items ≡ lines_after (lines_of lines.old.items) (spec.arguments_in_rule (view.rule rule.now))) }
+    ensures { OnOk result (texts_of lines.new ≡ lines_after (texts_of lines.old) (spec.arguments_in_rule (view.rule rule.now))) }
 {
     for fact in &rule.facts.premises {
         let is_wrong = is_fr(fact)

@@ -10,9 +10,10 @@ ghost use Rattle.sp_term.specs.View.{sort_of};
 ghost use Rattle.sp_wf_rules.specs.RuleFindings as spec;
 ghost use Rattle.sp_finding.specs.Finding.{lines_after};
 ghost use Rattle.sp_wf_rules.specs.Told.{stands_among};
-ghost use Rattle.sp_finding.specs.View.{lines_of};
+ghost use Rattle.sp_lines.specs.TextsView.{texts_of};
 
 use sp_finding::{Finding, RuleFinding, is_fr, may_be_fresh, occurrences, tell_if};
+use sp_lines::Texts;
 use sp_read_parts::{Mark, WrittenFact, WrittenRule, WrittenTerm, WrittenVariable};
 use sp_term::term::{Sort, Term};
 use std::alloc::{AllocError, Global};
@@ -118,12 +119,12 @@ fn has_other_mark(rule: &WrittenRule, variables: &Vec<WrittenVariable>, name: &s
 #[tactic(auto, using(sp_finding::proofs::Telling::told_on))]
 fn tell_two_sorts(
     alloc: Global,
-    lines: &mut Vec<String>,
+    lines: &mut Texts,
     rule: &WrittenRule,
     variables: &Vec<WrittenVariable>,
 ) -> Result<(), AllocError>
     requires { map view.variable variables.now.items ≡ occurrences (view.rule rule.now).facts }
-    ensures { OnOk result (lines_of lines.new.items ≡ lines_after (lines_of lines.old.items) (spec.two_sorted rule.now.name.now (view.rule rule.now).facts (map view.variable variables.now.items))) }
+    ensures { OnOk result (texts_of lines.new ≡ lines_after (texts_of lines.old) (spec.two_sorted rule.now.name.now (view.rule rule.now).facts (map view.variable variables.now.items))) }
 {
     for variable in variables {
         let is_wrong = has_other_mark(rule, variables, variable.name);
@@ -142,12 +143,8 @@ fn tell_two_sorts(
 /// # Errors
 ///
 /// `AllocError` where memory is wanting.
-pub fn tell_sorts(
-    alloc: Global,
-    lines: &mut Vec<String>,
-    rule: &WrittenRule,
-) -> Result<(), AllocError>
-    ensures { OnOk result (lines_of lines.new.items ≡ lines_after (lines_of lines.old.items) (spec.sorts_in_rule (view.rule rule.now))) }
+pub fn tell_sorts(alloc: Global, lines: &mut Texts, rule: &WrittenRule) -> Result<(), AllocError>
+    ensures { OnOk result (texts_of lines.new ≡ lines_after (texts_of lines.old) (spec.sorts_in_rule (view.rule rule.now))) }
 {
     let variables = occurrences(alloc, rule)?;
     tell_two_sorts(alloc, lines, rule, &variables)
@@ -214,12 +211,12 @@ fn is_unbound(rule: &WrittenRule, variables: &Vec<WrittenVariable>, name: &str) 
 #[tactic(auto, using(sp_finding::proofs::Telling::told_on))]
 fn tell_unbound_variables(
     alloc: Global,
-    lines: &mut Vec<String>,
+    lines: &mut Texts,
     rule: &WrittenRule,
     variables: &Vec<WrittenVariable>,
 ) -> Result<(), AllocError>
     requires { map view.variable variables.now.items ≡ occurrences (view.rule rule.now).facts }
-    ensures { OnOk result (lines_of lines.new.items ≡ lines_after (lines_of lines.old.items) (spec.unbound rule.now.name.now (view.rule rule.now).facts (map view.variable variables.now.items))) }
+    ensures { OnOk result (texts_of lines.new ≡ lines_after (texts_of lines.old) (spec.unbound rule.now.name.now (view.rule rule.now).facts (map view.variable variables.now.items))) }
 {
     for variable in variables {
         let is_wrong = is_unbound(rule, variables, variable.name);
@@ -238,12 +235,8 @@ fn tell_unbound_variables(
 /// # Errors
 ///
 /// `AllocError` where memory is wanting.
-pub fn tell_unbound(
-    alloc: Global,
-    lines: &mut Vec<String>,
-    rule: &WrittenRule,
-) -> Result<(), AllocError>
-    ensures { OnOk result (lines_of lines.new.items ≡ lines_after (lines_of lines.old.items) (spec.unbound_in_rule (view.rule rule.now))) }
+pub fn tell_unbound(alloc: Global, lines: &mut Texts, rule: &WrittenRule) -> Result<(), AllocError>
+    ensures { OnOk result (texts_of lines.new ≡ lines_after (texts_of lines.old) (spec.unbound_in_rule (view.rule rule.now))) }
 {
     let variables = occurrences(alloc, rule)?;
     tell_unbound_variables(alloc, lines, rule, &variables)?;

@@ -4,3 +4,4 @@ pub mod SymbolsClean
 pub mod UnknownClean
 pub mod EquationsClean
 pub mod EquationsOver
+pub mod FirstNamed

@@ -1,3 +1,5 @@
-pub mod SymbolFindings
 pub mod EquationFindings
+pub mod Firsts
+pub mod FirstsView
+pub mod SymbolFindings
 pub mod Told

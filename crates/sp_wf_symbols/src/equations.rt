@@ -7,7 +7,8 @@ ghost use Rattle.sp_conv.specs.Tests.{is_well_formed, has_private_constant};
 ghost use Rattle.sp_written.specs.Views as view;
 ghost use Rattle.sp_declared.specs.NumberedView.{numbered_of};
 ghost use Rattle.sp_finding.specs.Finding.{are_none, lines_after};
-ghost use Rattle.sp_finding.specs.View.{lines_of};
+ghost use Rattle.sp_finding.specs.KnownView.{symbols_of};
+ghost use Rattle.sp_lines.specs.TextsView.{texts_of};
 ghost use Rattle.sp_wf_symbols.specs.EquationFindings as spec;
 ghost use Rattle.sp_wf_symbols.specs.SymbolFindings.{unknown_in_equations};
 ghost use Rattle.sp_wf_symbols.specs.Told.{is_formed, clashes_if_formed};
@@ -16,7 +17,8 @@ use sp_conv::clash::clash;
 use sp_conv::form::{Form, form_of};
 use sp_declared::equations::NumberedEquation;
 use sp_fact::signature::{Equation, Symbol};
-use sp_finding::{Finding, tell_if, tell_unknown};
+use sp_finding::{Finding, KnownSymbols, tell_if, tell_unknown};
+use sp_lines::Texts;
 use sp_written::WrittenEquation;
 use std::alloc::{AllocError, Global};
 
@@ -49,11 +51,11 @@ pub fn without_numbers(
 /// `AllocError` where memory is wanting.
 pub fn tell_unknown_in_equations(
     alloc: Global,
-    lines: &mut Vec<String>,
-    symbols: &Vec<Symbol>,
+    lines: &mut Texts,
+    symbols: &KnownSymbols,
     equations: &Vec<WrittenEquation>,
 ) -> Result<(), AllocError>
-    ensures { OnOk result (lines_of lines.new.items ≡ lines_after (lines_of lines.old.items) (unknown_in_equations (map symbol_of symbols.now.items) (map view.equation equations.now.items))) }
+    ensures { OnOk result (texts_of lines.new ≡ lines_after (texts_of lines.old) (unknown_in_equations (symbols_of symbols.now) (map view.equation equations.now.items))) }
 {
     for equation in equations {
         tell_unknown(alloc, lines, symbols, &equation.left)?;
@@ -94,12 +96,12 @@ fn has_private_constant(
 #[tactic(auto, using(sp_finding::proofs::Telling::told_on))]
 fn tell_shapes(
     alloc: Global,
-    lines: &mut Vec<String>,
+    lines: &mut Texts,
     symbols: &Vec<Symbol>,
     equations: &Vec<Equation>,
     numbered: &Vec<NumberedEquation>,
 ) -> Result<(), AllocError>
-    ensures { OnOk result (lines_of lines.new.items ≡ lines_after (lines_of lines.old.items) (spec.shapes (map symbol_of symbols.now.items) (map equation_of equations.now.items) (map numbered_of numbered.now.items))) }
+    ensures { OnOk result (texts_of lines.new ≡ lines_after (texts_of lines.old) (spec.shapes (map symbol_of symbols.now.items) (map equation_of equations.now.items) (map numbered_of numbered.now.items))) }
 {
     for one in numbered {
         let is_wrong = has_wrong_shape(symbols, equations, &one.equation);
@@ -112,12 +114,12 @@ fn tell_shapes(
 #[tactic(auto, using(sp_finding::proofs::Telling::told_on))]
 fn tell_private_constants(
     alloc: Global,
-    lines: &mut Vec<String>,
+    lines: &mut Texts,
     symbols: &Vec<Symbol>,
     equations: &Vec<Equation>,
     numbered: &Vec<NumberedEquation>,
 ) -> Result<(), AllocError>
-    ensures { OnOk result (lines_of lines.new.items ≡ lines_after (lines_of lines.old.items) (spec.private_constants (map symbol_of symbols.now.items) (map equation_of equations.now.items) (map numbered_of numbered.now.items))) }
+    ensures { OnOk result (texts_of lines.new ≡ lines_after (texts_of lines.old) (spec.private_constants (map symbol_of symbols.now.items) (map equation_of equations.now.items) (map numbered_of numbered.now.items))) }
 {
     for one in numbered {
         let is_wrong = has_private_constant(symbols, equations, &one.equation);
@@ -165,11 +167,11 @@ fn do_clash(alloc: Global, first: &Equation, second: &Equation) -> Result<bool, 
 #[tactic(auto, using(sp_finding::proofs::Telling::told_on))]
 fn tell_clashes_with(
     alloc: Global,
-    lines: &mut Vec<String>,
+    lines: &mut Texts,
     first: &NumberedEquation,
     others: &[NumberedEquation],
 ) -> Result<(), AllocError>
-    ensures { OnOk result (lines_of lines.new.items ≡ lines_after (lines_of lines.old.items) (spec.clashes_with (numbered_of first.now) (map numbered_of others.now))) }
+    ensures { OnOk result (texts_of lines.new ≡ lines_after (texts_of lines.old) (spec.clashes_with (numbered_of first.now) (map numbered_of others.now))) }
 {
     for other in others {
         let is_wrong = do_clash(alloc, &first.equation, &other.equation)?;
@@ -182,10 +184,10 @@ fn tell_clashes_with(
 /// Tells of each two of the equations that clash.
 fn tell_clashes(
     alloc: Global,
-    lines: &mut Vec<String>,
+    lines: &mut Texts,
     numbered: &Vec<NumberedEquation>,
 ) -> Result<(), AllocError>
-    ensures { OnOk result (lines_of lines.new.items ≡ lines_after (lines_of lines.old.items) (spec.clashes (map numbered_of numbered.now.items))) }
+    ensures { OnOk result (texts_of lines.new ≡ lines_after (texts_of lines.old) (spec.clashes (map numbered_of numbered.now.items))) }
 {
     for (place, first) in numbered.iter().enumerate() {
         tell_clashes_with(alloc, lines, first, &numbered[place + 1..])?;
@@ -196,12 +198,12 @@ fn tell_clashes(
 /// The same, where each equation is as it should be by itself.
 fn tell_clashes_if_formed(
     alloc: Global,
-    lines: &mut Vec<String>,
+    lines: &mut Texts,
     symbols: &Vec<Symbol>,
     equations: &Vec<Equation>,
     numbered: &Vec<NumberedEquation>,
 ) -> Result<(), AllocError>
-    ensures { OnOk result (lines_of lines.new.items ≡ lines_after (lines_of lines.old.items) (clashes_if_formed (map symbol_of symbols.now.items) (map equation_of equations.now.items) (map numbered_of numbered.now.items))) }
+    ensures { OnOk result (texts_of lines.new ≡ lines_after (texts_of lines.old) (clashes_if_formed (map symbol_of symbols.now.items) (map equation_of equations.now.items) (map numbered_of numbered.now.items))) }
 {
     if are_formed(symbols, equations, numbered) {
         tell_clashes(alloc, lines, numbered)
@@ -218,13 +220,13 @@ fn tell_clashes_if_formed(
 #[tactic(auto, using(sp_finding::proofs::Telling::told_three))]
 pub fn tell_equations(
     alloc: Global,
-    lines: &mut Vec<String>,
+    lines: &mut Texts,
     symbols: &Vec<Symbol>,
     equations: &Vec<Equation>,
     numbered: &Vec<NumberedEquation>,
 ) -> Result<(), AllocError>
     requires { map equation_of equations.now.items ≡ their_equations (map numbered_of numbered.now.items) }
-    ensures { OnOk result (lines_of lines.new.items ≡ lines_after (lines_of lines.old.items) (spec.findings_on_equations (map symbol_of symbols.now.items) (map numbered_of numbered.now.items))) }
+    ensures { OnOk result (texts_of lines.new ≡ lines_after (texts_of lines.old) (spec.findings_on_equations (map symbol_of symbols.now.items) (map numbered_of numbered.now.items))) }
 {
     tell_shapes(alloc, lines, symbols, equations, numbered)?;
     tell_private_constants(alloc, lines, symbols, equations, numbered)?;

@@ -3,10 +3,11 @@
 // above stands the report on a theory (sp_wf), beside it what is told of rules and of formulas (sp_wf_rules, sp_wf_formulas).
 // Carried here: exactly the lines of the definition's findings stand behind the others, and there are none exactly where each symbol is declared in
 // one way, the equations are over the symbols, and they are accepted.
-// src/symbols.rt has builtins and symbols, src/equations.rt equations.
+// src/symbols.rt has builtins and symbols, src/firsts.rt symbols that are looked up, src/equations.rt equations.
 #![tactic(auto)]
 
 mod equations;
+mod firsts;
 mod symbols;
 
 pub use equations::{tell_equations, tell_unknown_in_equations, without_numbers};

@@ -6,14 +6,17 @@ ghost use Rattle.sp_fact.specs.GroundView.{symbol_of};
 ghost use Rattle.sp_spec_text.specs.Written.{item_builtins, item_functions, builtins_in, functions_in};
 ghost use Rattle.sp_spec_text.specs.Declared.{builtin_of, builtin_symbols, declared_symbols};
 ghost use Rattle.sp_written.specs.Views as view;
+ghost use Rattle.sp_wf_symbols.specs.FirstsView.{symbols_of};
 ghost use Rattle.sp_wf_symbols.specs.SymbolFindings as spec;
 ghost use Rattle.sp_finding.specs.Finding.{lines_after};
 ghost use Rattle.sp_wf_symbols.specs.Told.{otherwise_named};
-ghost use Rattle.sp_finding.specs.View.{lines_of};
+ghost use Rattle.sp_lines.specs.TextsView.{texts_of};
 
+use crate::firsts::FirstSymbols;
 use sp_declared::builtins::Builtin;
 use sp_fact::signature::Symbol;
 use sp_finding::{Finding, MOST_ARGUMENTS, tell_if};
+use sp_lines::Texts;
 use sp_term::term::Name;
 use sp_written::Item;
 use std::alloc::{AllocError, Global};
@@ -31,10 +34,10 @@ fn is_left_out(name: &str) -> bool
 #[tactic(auto, using(sp_finding::proofs::Telling::told_on))]
 fn tell_names_left_out(
     alloc: Global,
-    lines: &mut Vec<String>,
+    lines: &mut Texts,
     names: &Vec<Name>,
 ) -> Result<(), AllocError>
-    ensures { OnOk result (lines_of lines.new.items ≡ lines_after (lines_of lines.old.items) (spec.left_out (map name_of names.now.items))) }
+    ensures { OnOk result (texts_of lines.new ≡ lines_after (texts_of lines.old) (spec.left_out (map name_of names.now.items))) }
 {
     for name in names {
         let text = name.text.as_str();
@@ -44,8 +47,8 @@ fn tell_names_left_out(
     Ok(())
 }
 
-fn tell_if_left_out(alloc: Global, lines: &mut Vec<String>, item: &Item) -> Result<(), AllocError>
-    ensures { OnOk result (lines_of lines.new.items ≡ lines_after (lines_of lines.old.items) (spec.left_out (item_builtins (view.item item.now)))) }
+fn tell_if_left_out(alloc: Global, lines: &mut Texts, item: &Item) -> Result<(), AllocError>
+    ensures { OnOk result (texts_of lines.new ≡ lines_after (texts_of lines.old) (spec.left_out (item_builtins (view.item item.now)))) }
 {
     match item {
         Item::Builtins(names) => tell_names_left_out(alloc, lines, names),
@@ -58,12 +61,8 @@ fn tell_if_left_out(alloc: Global, lines: &mut Vec<String>, item: &Item) -> Resu
 /// # Errors
 ///
 /// `AllocError` where memory is wanting.
-pub fn tell_left_out(
-    alloc: Global,
-    lines: &mut Vec<String>,
-    items: &Vec<Item>,
-) -> Result<(), AllocError>
-    ensures { OnOk result (lines_of lines.new.items ≡ lines_after (lines_of lines.old.items) (spec.left_out (builtins_in (view.items items.now.items)))) }
+pub fn tell_left_out(alloc: Global, lines: &mut Texts, items: &Vec<Item>) -> Result<(), AllocError>
+    ensures { OnOk result (texts_of lines.new ≡ lines_after (texts_of lines.old) (spec.left_out (builtins_in (view.items items.now.items)))) }
 {
     for item in items {
         tell_if_left_out(alloc, lines, item)?;
@@ -73,37 +72,18 @@ pub fn tell_left_out(
 
 // ---- symbols
 
-/// Whether the symbols have the same arity and are both private, or neither.
-fn is_same_symbol(one: &Symbol, other: &Symbol) -> bool
-    ensures { result ≡ spec.is_same_symbol (symbol_of one.now) (symbol_of other.now) }
-{
-    one.arity == other.arity && one.private == other.private
-}
-
-/// Whether the symbol that has its name is another one.
-fn differs(symbol: &Symbol, symbols: &Vec<Symbol>) -> bool
-    ensures { result ≡ spec.differs (symbol_of symbol.now) (map symbol_of symbols.now.items) }
-{
-    for other in symbols {
-        if other.name == symbol.name {
-            return !is_same_symbol(other, symbol);
-        }
-    }
-    false
-}
-
 /// Tells of each of these that is declared in another way.
 #[tactic(auto, using(sp_finding::proofs::Telling::told_on))]
 fn tell_otherwise(
     alloc: Global,
-    lines: &mut Vec<String>,
-    symbols: &Vec<Symbol>,
+    lines: &mut Texts,
+    symbols: &FirstSymbols,
     declared: &Vec<Symbol>,
 ) -> Result<(), AllocError>
-    ensures { OnOk result (lines_of lines.new.items ≡ lines_after (lines_of lines.old.items) (spec.declared_otherwise (map symbol_of symbols.now.items) (map symbol_of declared.now.items))) }
+    ensures { OnOk result (texts_of lines.new ≡ lines_after (texts_of lines.old) (spec.declared_otherwise (symbols_of symbols.now) (map symbol_of declared.now.items))) }
 {
     for symbol in declared {
-        let is_wrong = differs(symbol, symbols);
+        let is_wrong = symbols.differ_from(symbol);
         let finding = Finding::DeclaredTwice(symbol.name.text.as_str());
         tell_if(alloc, lines, is_wrong, finding)?;
     }
@@ -113,11 +93,11 @@ fn tell_otherwise(
 /// The same of the symbols of the builtin of this name, if it is known.
 fn tell_builtin(
     alloc: Global,
-    lines: &mut Vec<String>,
-    symbols: &Vec<Symbol>,
+    lines: &mut Texts,
+    symbols: &FirstSymbols,
     name: &Name,
 ) -> Result<(), AllocError>
-    ensures { OnOk result (lines_of lines.new.items ≡ lines_after (lines_of lines.old.items) (spec.declared_otherwise (map symbol_of symbols.now.items) (builtin_symbols (builtin_of (name_of name.now))))) }
+    ensures { OnOk result (texts_of lines.new ≡ lines_after (texts_of lines.old) (spec.declared_otherwise (symbols_of symbols.now) (builtin_symbols (builtin_of (name_of name.now))))) }
 {
     match Builtin::named(name.text.as_str()) {
         Some(builtin) => {
@@ -132,11 +112,11 @@ fn tell_builtin(
 /// The same of the symbols of each of these builtins.
 fn tell_builtins(
     alloc: Global,
-    lines: &mut Vec<String>,
-    symbols: &Vec<Symbol>,
+    lines: &mut Texts,
+    symbols: &FirstSymbols,
     names: &Vec<Name>,
 ) -> Result<(), AllocError>
-    ensures { OnOk result (lines_of lines.new.items ≡ lines_after (lines_of lines.old.items) (otherwise_named (map symbol_of symbols.now.items) (map name_of names.now.items))) }
+    ensures { OnOk result (texts_of lines.new ≡ lines_after (texts_of lines.old) (otherwise_named (symbols_of symbols.now) (map name_of names.now.items))) }
 {
     for name in names {
         tell_builtin(alloc, lines, symbols, name)?;
@@ -146,11 +126,11 @@ fn tell_builtins(
 
 fn tell_if_builtins(
     alloc: Global,
-    lines: &mut Vec<String>,
-    symbols: &Vec<Symbol>,
+    lines: &mut Texts,
+    symbols: &FirstSymbols,
     item: &Item,
 ) -> Result<(), AllocError>
-    ensures { OnOk result (lines_of lines.new.items ≡ lines_after (lines_of lines.old.items) (otherwise_named (map symbol_of symbols.now.items) (item_builtins (view.item item.now)))) }
+    ensures { OnOk result (texts_of lines.new ≡ lines_after (texts_of lines.old) (otherwise_named (symbols_of symbols.now) (item_builtins (view.item item.now)))) }
 {
     match item {
         Item::Builtins(names) => tell_builtins(alloc, lines, symbols, names),
@@ -160,11 +140,11 @@ fn tell_if_builtins(
 
 fn tell_all_builtins(
     alloc: Global,
-    lines: &mut Vec<String>,
-    symbols: &Vec<Symbol>,
+    lines: &mut Texts,
+    symbols: &FirstSymbols,
     items: &Vec<Item>,
 ) -> Result<(), AllocError>
-    ensures { OnOk result (lines_of lines.new.items ≡ lines_after (lines_of lines.old.items) (otherwise_named (map symbol_of symbols.now.items) (builtins_in (view.items items.now.items)))) }
+    ensures { OnOk result (texts_of lines.new ≡ lines_after (texts_of lines.old) (otherwise_named (symbols_of symbols.now) (builtins_in (view.items items.now.items)))) }
 {
     for item in items {
         tell_if_builtins(alloc, lines, symbols, item)?;
@@ -174,11 +154,11 @@ fn tell_all_builtins(
 
 fn tell_if_functions(
     alloc: Global,
-    lines: &mut Vec<String>,
-    symbols: &Vec<Symbol>,
+    lines: &mut Texts,
+    symbols: &FirstSymbols,
     item: &Item,
 ) -> Result<(), AllocError>
-    ensures { OnOk result (lines_of lines.new.items ≡ lines_after (lines_of lines.old.items) (spec.declared_otherwise (map symbol_of symbols.now.items) (item_functions (view.item item.now)))) }
+    ensures { OnOk result (texts_of lines.new ≡ lines_after (texts_of lines.old) (spec.declared_otherwise (symbols_of symbols.now) (item_functions (view.item item.now)))) }
 {
     match item {
         Item::Functions(declared) => tell_otherwise(alloc, lines, symbols, declared),
@@ -188,11 +168,11 @@ fn tell_if_functions(
 
 fn tell_all_functions(
     alloc: Global,
-    lines: &mut Vec<String>,
-    symbols: &Vec<Symbol>,
+    lines: &mut Texts,
+    symbols: &FirstSymbols,
     items: &Vec<Item>,
 ) -> Result<(), AllocError>
-    ensures { OnOk result (lines_of lines.new.items ≡ lines_after (lines_of lines.old.items) (spec.declared_otherwise (map symbol_of symbols.now.items) (functions_in (view.items items.now.items)))) }
+    ensures { OnOk result (texts_of lines.new ≡ lines_after (texts_of lines.old) (spec.declared_otherwise (symbols_of symbols.now) (functions_in (view.items items.now.items)))) }
 {
     for item in items {
         tell_if_functions(alloc, lines, symbols, item)?;
@@ -200,22 +180,35 @@ fn tell_all_functions(
     Ok(())
 }
 
+/// The same of the symbols of builtins, and then of the others.
+#[tactic(auto, using(crate::proofs::Declaring::declared_behind))]
+fn tell_all_otherwise(
+    alloc: Global,
+    lines: &mut Texts,
+    symbols: &FirstSymbols,
+    items: &Vec<Item>,
+) -> Result<(), AllocError>
+    ensures { OnOk result (texts_of lines.new ≡ lines_after (texts_of lines.old) (spec.declared_otherwise (symbols_of symbols.now) (declared_symbols (view.items items.now.items)))) }
+{
+    tell_all_builtins(alloc, lines, symbols, items)?;
+    tell_all_functions(alloc, lines, symbols, items)
+}
+
 /// Tells of each symbol that is declared in another way than the first of its name: those of builtins, and then the others.
 ///
 /// # Errors
 ///
 /// `AllocError` where memory is wanting.
-#[tactic(auto, using(crate::proofs::Declaring::declared_behind))]
 pub fn tell_declared(
     alloc: Global,
-    lines: &mut Vec<String>,
+    lines: &mut Texts,
     symbols: &Vec<Symbol>,
     items: &Vec<Item>,
 ) -> Result<(), AllocError>
-    ensures { OnOk result (lines_of lines.new.items ≡ lines_after (lines_of lines.old.items) (spec.declared_otherwise (map symbol_of symbols.now.items) (declared_symbols (view.items items.now.items)))) }
+    ensures { OnOk result (texts_of lines.new ≡ lines_after (texts_of lines.old) (spec.declared_otherwise (map symbol_of symbols.now.items) (declared_symbols (view.items items.now.items)))) }
 {
-    tell_all_builtins(alloc, lines, symbols, items)?;
-    tell_all_functions(alloc, lines, symbols, items)
+    let firsts = FirstSymbols::of(alloc, symbols)?;
+    tell_all_otherwise(alloc, lines, &firsts, items)
 }
 
 /// Tells of each of the symbols that has too many arguments.
@@ -226,10 +219,10 @@ pub fn tell_declared(
 #[tactic(auto, using(sp_finding::proofs::Telling::told_on))]
 pub fn tell_wide_symbols(
     alloc: Global,
-    lines: &mut Vec<String>,
+    lines: &mut Texts,
     symbols: &Vec<Symbol>,
 ) -> Result<(), AllocError>
-    ensures { OnOk result (lines_of lines.new.items ≡ lines_after (lines_of lines.old.items) (spec.wide_symbols (map symbol_of symbols.now.items))) }
+    ensures { OnOk result (texts_of lines.new ≡ lines_after (texts_of lines.old) (spec.wide_symbols (map symbol_of symbols.now.items))) }
 {
     for symbol in symbols {
         let is_wrong = MOST_ARGUMENTS < symbol.arity;

@@ -10,7 +10,7 @@ own : IsNumeralModel (AllDigits 10) (digits_value 10)
 own = numerals_by_value (AllDigits 10) tells_digits
 
 -- what is written of a number begins with neither
-pub begins_behind_zero : (n c : ℕ) (rest text : List ℕ) → text ≡ decimal n → 1 ≤ n → n ≤ 1000000 → text ≡ c ∷ rest → 48 < c
+pub begins_behind_zero : (n c : ℕ) (rest text : List ℕ) → text ≡ decimal n → 1 ≤ n → n < 2 ^ 64 → text ≡ c ∷ rest → 48 < c
 begins_behind_zero n c rest text is low high e = subst (λ t. 48 < get_or t 0 0) (sym is ∙ e) (first_decimal n (omega arith) (omega arith))
 
 first_is : (text : List ℕ) (c : ℕ) → 0 < c → get_or text 0 0 ≡ c → (rest : List ℕ) × (text ≡ c ∷ rest)
@@ -18,13 +18,13 @@ first_is [] c some e = absurd (omega arith)
 first_is (b ∷ rest) c some e = (rest, ap (λ x. x ∷ rest) e)
 
 module _ {E : Type 0} (text : List ℕ) (r : Result ℕ E) (parse : ParsesUnsigned 64 10 text r) where
-  pub parses : (n : ℕ) → text ≡ decimal n → n ≤ 1000000 → r ≡ Ok n
+  pub parses : (n : ℕ) → text ≡ decimal n → n < 2 ^ 64 → r ≡ Ok n
   parses n is high = parse-decimal 64 n text r (omega arith) (omega arith) is parse
 
-  pub is_number : (n m : ℕ) → r ≡ Ok m → text ≡ decimal n → n ≤ 1000000 → n ≡ m
+  pub is_number : (n m : ℕ) → r ≡ Ok m → text ≡ decimal n → n < 2 ^ 64 → n ≡ m
   is_number n m e is high = subst (λ x. MatchResult x (λ k. n ≡ k) (λ _. ⊥)) (sym (parses n is high) ∙ e) refl
 
-  pub is_no_number : (n : ℕ) (cause : E) → r ≡ Err cause → text ≡ decimal n → n ≤ 1000000 → ⊥
+  pub is_no_number : (n : ℕ) (cause : E) → r ≡ Err cause → text ≡ decimal n → n < 2 ^ 64 → ⊥
   is_no_number n cause e is high = subst (λ x. MatchResult x (λ _. ⊤) (λ _. ⊥)) (sym (parses n is high) ∙ e) tt
 
   pub is_written : (n : ℕ) → ((rest : List ℕ) → text ≢ 43 ∷ rest) → ((rest : List ℕ) → text ≢ 48 ∷ rest) → r ≡ Ok n → text ≡ decimal n

@@ -6,17 +6,18 @@
 
 ghost use Rattle.std.specs.Prelude.{◌≡◌, ◌≢◌, [], IfOk, IfErr, MatchOption, map};
 ghost use Rattle.clap.specs.Words.{found_of, rows_of, subcommand_rows_of};
-ghost use Rattle.sp_words.specs.Line.{AskFor, AsksFor, IsLine, IsNoLine, command_word, faults, named, request_of};
-ghost use Rattle.sp_words.specs.Line.{Request as Asked};
+ghost use Rattle.sp_words.specs.Line.{AskFor, AsksFor, IsLine, IsNoLine, IsTextAsked};
+ghost use Rattle.sp_words.specs.Line.{command_word, faults, named, request_of, text_of};
+ghost use Rattle.sp_words.specs.Line.{Request as Asked, Text as Meant};
 ghost use Rattle.sp_words.specs.Laws.{LinesAskOnce};
 
 mod arguments;
-mod budget;
+mod numbers;
 
 use arguments::spthy;
-use budget::budget_by;
 use clap::ArgMatches;
 use clap::error::ErrorKind;
+use numbers::{budget_by, size_by};
 use std::alloc::{AllocError, Global};
 use std::convert::AsStr;
 use thiserror::Error;
@@ -32,6 +33,21 @@ pub enum Command {
     Replay,
     /// The rules are written, each with its forms.
     Variants,
+    /// The findings on the theory are written, and the warnings, with how many there are.
+    Wf,
+    /// The log that is found for the lemma is written as a graph.
+    Graph,
+    /// A theory that is made of a number is proved, and its verdicts are counted.
+    Gen,
+}
+
+/// Which text is meant.
+#[derive(Clone, Copy, Debug)]
+pub enum Text<'a> {
+    /// That of this name, which is fetched.
+    File(&'a str),
+    /// The theory that is made of this number.
+    Made(u16),
 }
 
 /// What the words of a command ask for.
@@ -39,8 +55,8 @@ pub enum Command {
 pub struct Request<'a> {
     /// what is to be done with a text
     pub command: Command,
-    /// the name of the text
-    pub file: &'a str,
+    /// which text is meant
+    pub text: Text<'a>,
     /// how many moves a proof may have that is grown
     pub budget: u64,
     /// the lemma that alone is meant, where one is named
@@ -92,7 +108,21 @@ impl Command {
             "check" => Some(Command::Check),
             "replay" => Some(Command::Replay),
             "variants" => Some(Command::Variants),
+            "wf" => Some(Command::Wf),
+            "graph" => Some(Command::Graph),
+            "gen" => Some(Command::Gen),
             _ => None,
+        }
+    }
+
+    /// Which text is meant, by the values of the subcommand's arguments.
+    fn text_by<'a>(self, values: &ArgMatches<'a>) -> Option<Text<'a>>
+        ensures { MatchOption result ((text : Meant) → ¬ IsTextAsked self (rows_of (found_of values.now)) text)
+            (λ t. IsTextAsked self (rows_of (found_of values.now)) (text_of t)) }
+    {
+        match self {
+            Command::Gen => Some(Text::Made(size_by(values.get_str("N")?)?)),
+            _ => Some(Text::File(values.get_str("FILE")?)),
         }
     }
 }
@@ -146,15 +176,18 @@ fn asked<'a>(word: &str, values: &ArgMatches<'a>) -> Option<Request<'a>>
         (λ r. AskFor word.now (rows_of (found_of values.now)) (request_of r)) }
 {
     let command = Command::of_word(word)?;
-    let file = values.get_str("FILE")?;
+    let text = command.text_by(values)?;
     let budget = budget_by(values.get_str("budget"))?;
     let lemma = values.get_str("lemma");
-    Some(Request {
-        command,
-        file,
-        budget,
-        lemma,
-    })
+    match (command, lemma) {
+        (Command::Graph, None) => None,
+        _ => Some(Request {
+            command,
+            text,
+            budget,
+            lemma,
+        }),
+    }
 }
 
 /// A line of the command asks for one thing.

@@ -1,7 +1,7 @@
-use Rattle.std.proofs.Common.{◌≡◌, List, ℕ, codes, Option, Result, Ok, Err, OnOk, IfOk, ◌⊎◌, inl, subst}
+use Rattle.std.proofs.Common.{◌≡◌, List, ℕ, codes, Option, Result, Ok, Err, OnOk, IfOk, ◌⊎◌, inl, inr, subst}
 use Rattle.sp_io.specs.Told.{extended}
-use Rattle.sp_top.specs.Command.{Request, fetched, IsLine, IsNoLine, request_of}
-use Rattle.sp_top.specs.Answer.{IsAnswer}
+use Rattle.sp_top.specs.Command.{Request, fetched, told, IsLine, IsNoLine, request_of}
+use Rattle.sp_top.specs.Answer.{IsFileAnswer, IsAnswer}
 use Rattle.sp_top.specs.declared.Status.{Status}
 use Rattle.sp_top.specs.declared.Status.TheVariants.{Usage}
 use Rattle.sp_top.proofs.Causes.{line_asks_one}
@@ -22,14 +22,25 @@ asked_or_not : (words : List (List ℕ)) (request : Request) (old new : Option (
     → (new ≡ old) ⊎ (new ≡ extended old (fetched request)) → (new ≡ old) ⊎ (new ≡ extended old (fetched other))
 asked_or_not words request old new other line l h = subst (λ (q : Request). (new ≡ old) ⊎ (new ≡ extended old (fetched q))) (line_asks_one words request other line l) h
 
+-- what is answered to a line is the answer to the words
+is_line_answer : {A E : Type 0} (text : A → List ℕ) (status : A → Status) (words : List (List ℕ)) (holds : List ℕ → Option (Option (List ℕ))) (before now : ℕ) (request : Request) (r : Result A E)
+    → IsLine words request → IfOk r (λ a. IsFileAnswer request (told holds request) before now (text a) (status a)) → IfOk r (λ a. IsAnswer words holds before now (text a) (status a))
+is_line_answer text status words holds before now request (Ok a) line h = inr (record { request = request; line = line; answer = h })
+is_line_answer text status words holds before now request (Err e) line h = tt
+
+pub returns-in-Ok-clause-answer : goal.returns-in-Ok-clause-answer
+returns-in-Ok-clause-answer g c =
+    is_line_answer (λ answer. answer.0.items) (λ answer. answer.1) c.args.words.now (g.L.Library.holds c.args.library.now) _ _ (request_of c.in-Ok.request) c.answer_request.result c.in-Ok.ensures.line
+    c.answer_request.ensures.answer
+
 pub returns-in-Ok-clause-no_line : goal.returns-in-Ok-clause-no_line
 returns-in-Ok-clause-no_line g c = λ no_line. absurd (no_line (request_of c.in-Ok.request) c.in-Ok.ensures.line)
 
 pub returns-in-Ok-clause-asked : goal.returns-in-Ok-clause-asked
-returns-in-Ok-clause-asked g c = λ request line. asked_or_not c.args.words.now (request_of c.in-Ok.request) _ _ request c.in-Ok.ensures.line line c.answer_file.ensures.asked
+returns-in-Ok-clause-asked g c = λ request line. asked_or_not c.args.words.now (request_of c.in-Ok.request) _ _ request c.in-Ok.ensures.line line c.answer_request.ensures.asked
 
 pub returns-in-Ok-clause-asked_all : goal.returns-in-Ok-clause-asked_all
-returns-in-Ok-clause-asked_all g c = asked_any c.args.words.now (request_of c.in-Ok.request) _ _ c.answer_file.result c.in-Ok.ensures.line c.answer_file.ensures.asked_all
+returns-in-Ok-clause-asked_all g c = asked_any c.args.words.now (request_of c.in-Ok.request) _ _ c.answer_request.result c.in-Ok.ensures.line c.answer_request.ensures.asked_all
 
 -- words that are no line are answered so
 is_usage : {A E : Type 0} (text : A → List ℕ) (status : A → Status) (words : List (List ℕ)) (holds : List ℕ → Option (Option (List ℕ))) (before now : ℕ) (r : Result A E) → IsNoLine words

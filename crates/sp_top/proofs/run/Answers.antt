@@ -33,12 +33,12 @@ returns-in-Ok-write_whole-clause-verdicts g c = headline c.args.words.now _ _ _ 
 
 pub returns-in-Ok-write_whole-clause-completeness : goal.returns-in-Ok-write_whole-clause-completeness
 returns-in-Ok-write_whole-clause-completeness g c = record {
-  complete = λ request file bytes line about told within still sink_still.
+  complete = λ request bytes line telling within still sink_still.
       let text = c.in-Ok.answer.0.items in
-      let answer = answer_of_line c.args.words.now (g.L.Library.holds c.args.library.now) _ _ text request file c.in-Ok.answer.1 line about c.in-Ok.ensures.answer in
+      let answer = answer_of_line c.args.words.now (g.L.Library.holds c.args.library.now) _ _ text request c.in-Ok.answer.1 line c.in-Ok.ensures.answer in
       inr (
         text,
-        text_is_answered c.args.words.now (g.L.Library.holds c.args.library.now) _ _ text request file bytes c.in-Ok.answer.1 answer told within still,
+        text_is_answered c.args.words.now (g.L.Library.holds c.args.library.now) _ _ text request bytes c.in-Ok.answer.1 answer telling within still,
         rw c.deref.ensures.value at c.in-Ok-write_whole.ensures.all,
       );
 }

@@ -1,6 +1,6 @@
 use Rattle.std.proofs.Common.{[], ◌∷◌, map, option_map, sym, ap, ◌∙◌}
 use Rattle.std.proofs.lemmas.List.{map-append}
-use Rattle.sp_pose.specs.Asked.{Asked, asked_of}
+use Rattle.sp_pose.specs.Asked.{asked_of}
 use Rattle.sp_analysis.specs.Printed.{asked_run}
 use Rattle.sp_analysis.proofs.ReadRun.{then_run}
 use Rattle.sp_analysis.proofs.chosen.run_among.Goals as goal

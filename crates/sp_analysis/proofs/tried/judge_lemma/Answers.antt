@@ -12,8 +12,8 @@ pub returns-clause-printed : goal.returns-clause-printed
 returns-clause-printed c =
     let setting = setting_in c.args.setting.now in
     judged_printed setting (map taken_of c.args.taken.now.items) (ask.asked_of c.args.lemma.now) (judgement_of c.in_ok-judgement.judgement) c.in_ok-judgement.ensures.judgement
-    (verdict_of c.by_judgement-verdict.result) c.in_ok-judgement.steps (string_bytes c.new.result) (string_bytes c.in_ok-block.block)
-    c.by_judgement-verdict.ensures c.in_ok-judgement.ensures.steps c.new.ensures.bytes (c.in_ok-block.ensures.text ∙ ap (block_by (executed setting) (given setting) c.args.lemma.now.marked) c.judged_log.ensures)
+    (verdict_of c.by_judgement-verdict.result) c.in_ok-judgement.steps (string_bytes c.new-proof.result) (string_bytes c.in_ok-block.block) (string_bytes c.new-graph.result)
+    c.by_judgement-verdict.ensures c.in_ok-judgement.ensures.steps c.new-proof.ensures.bytes (c.in_ok-block.ensures.text ∙ ap (block_by (executed setting) (given setting) c.args.lemma.now.marked) c.judged_log.ensures) c.new-graph.ensures.bytes
 
 pub returns-clause-nameable : goal.returns-clause-nameable
 returns-clause-nameable c = subst (IsNumberedBy (executed (setting_in c.args.setting.now)) (given (setting_in c.args.setting.now)) c.args.lemma.now.marked) (c.judged_log.ensures ∙ ap judged_log c.in_ok-judgement.ensures.judgement) c.in_ok-block.ensures.numbered

@@ -1,4 +1,4 @@
-use Rattle.sp_read_theory.proofs.Suffix.{left_over, nothing_left}
+use Rattle.sp_read_lemmas.proofs.Suffix.{left_over, nothing_left}
 use Rattle.sp_read_theory.proofs.Gone.{gone_item, gone_all, gone_places, gone_too_far, nothing_follows}
 use Rattle.sp_read_theory.proofs.items.items.Goals as goal
 

@@ -2,7 +2,7 @@ use Rattle.std.proofs.Common.{◌≡◌, drop}
 use Rattle.std.specs.List.{flat_map}
 use Rattle.sp_written.specs.Views as view
 use Rattle.sp_warn.specs.FormView.{made_of}
-use Rattle.sp_warn.specs.TextsView.{texts_of}
+use Rattle.sp_lines.specs.TextsView.{texts_of}
 use Rattle.sp_warn.specs.Told.{lines_after}
 use Rattle.sp_warn.specs.Warnings.{actions_of_item}
 use Rattle.sp_warn.proofs.actions.tell_actions.Given as goal

@@ -1,7 +1,7 @@
 use Rattle.std.proofs.Common.{◌∷◌, ◌++◌, [], map, refl}
 use Rattle.std.specs.Prelude.{string_bytes}
 use Rattle.sp_warn.specs.Constants.{alike_among}
-use Rattle.sp_warn.specs.TextsView.{texts_of}
+use Rattle.sp_lines.specs.TextsView.{texts_of}
 use Rattle.sp_warn.specs.Told.{lines_after}
 use Rattle.sp_warn.proofs.Grouping.{grouped_nothing}
 use Rattle.sp_warn.proofs.Stepping.{next_alike}

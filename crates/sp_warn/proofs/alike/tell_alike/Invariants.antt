@@ -2,7 +2,7 @@ use Rattle.std.proofs.Common.{◌≡◌, ℕ, List, [], map, drop}
 use Rattle.std.specs.Prelude.{string_bytes}
 use Rattle.sp_warn.specs.Constants.{alike_among}
 use Rattle.sp_warn.specs.Groups.{Grouped}
-use Rattle.sp_warn.specs.TextsView.{texts_of}
+use Rattle.sp_lines.specs.TextsView.{texts_of}
 use Rattle.sp_warn.specs.Told.{lines_after}
 use Rattle.sp_warn.proofs.alike.tell_alike.Given as goal
 

@@ -3,7 +3,7 @@ use Rattle.std.proofs.lemmas.List.{get_or_default}
 use Rattle.sp_declared.specs.View as declared
 use Rattle.sp_declared.proofs.Stepping.{next}
 use Rattle.sp_warn.specs.Constants.{alike_before}
-use Rattle.sp_warn.specs.TextsView.{texts_of}
+use Rattle.sp_lines.specs.TextsView.{texts_of}
 use Rattle.sp_warn.specs.Told.{lines_after}
 use Rattle.sp_warn.specs.ToldLaws.{told_both}
 use Rattle.sp_warn.proofs.Stepping.{alike_first}

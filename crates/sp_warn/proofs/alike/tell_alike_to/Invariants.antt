@@ -1,7 +1,7 @@
 use Rattle.std.proofs.Common.{◌≡◌, drop}
 use Rattle.sp_declared.specs.View as declared
 use Rattle.sp_warn.specs.Constants.{alike_before}
-use Rattle.sp_warn.specs.TextsView.{texts_of}
+use Rattle.sp_lines.specs.TextsView.{texts_of}
 use Rattle.sp_warn.specs.Told.{lines_after}
 use Rattle.sp_warn.proofs.alike.tell_alike_to.Given as goal
 

@@ -3,7 +3,7 @@ use Rattle.std.proofs.lemmas.List.{map-append}
 use Rattle.sp_declared.specs.View as declared
 use Rattle.sp_warn.specs.Constants.{alike_before}
 use Rattle.sp_warn.specs.Groups.{in_group}
-use Rattle.sp_warn.specs.TextsView.{texts_of}
+use Rattle.sp_lines.specs.TextsView.{texts_of}
 use Rattle.sp_warn.specs.Told.{lines_after}
 use Rattle.sp_warn.proofs.Grouping.{in_its_group, grouped_more}
 use Rattle.sp_warn.proofs.alike.tell_constant.Goals as goal

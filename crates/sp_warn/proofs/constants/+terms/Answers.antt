@@ -2,7 +2,7 @@ use Rattle.std.proofs.Common.{refl}
 use Rattle.sp_read_parts.specs.Views.{term, terms}
 use Rattle.sp_spec.specs.Constants.{once_after, in_term, in_terms}
 use Rattle.sp_declared.proofs.ConstantSteps.{next}
-use Rattle.sp_warn.specs.TextsView.{texts_of}
+use Rattle.sp_lines.specs.TextsView.{texts_of}
 use Rattle.sp_warn.proofs.constants.+terms.Goals as goal
 
 pub see_terms-loop-term-preserved : goal.see_terms-loop-term-preserved

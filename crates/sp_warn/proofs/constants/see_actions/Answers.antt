@@ -2,7 +2,7 @@ use Rattle.std.proofs.Common.{map, refl}
 use Rattle.sp_read_parts.specs.Views.{action_of}
 use Rattle.sp_spec.specs.Constants.{once_after, in_terms, in_actions}
 use Rattle.sp_declared.proofs.ConstantSteps.{next}
-use Rattle.sp_warn.specs.TextsView.{texts_of}
+use Rattle.sp_lines.specs.TextsView.{texts_of}
 use Rattle.sp_warn.proofs.constants.see_actions.Goals as goal
 
 pub loop-action-preserved : goal.loop-action-preserved

@@ -1,7 +1,7 @@
 use Rattle.std.proofs.Common.{◌≡◌, map, drop}
 use Rattle.sp_read_parts.specs.Views.{action_of}
 use Rattle.sp_spec.specs.Constants.{once_after, in_actions}
-use Rattle.sp_warn.specs.TextsView.{texts_of}
+use Rattle.sp_lines.specs.TextsView.{texts_of}
 use Rattle.sp_warn.proofs.constants.see_actions.Given as goal
 
 abbrev pub invariant-loop-action : goal.invariant-loop-action

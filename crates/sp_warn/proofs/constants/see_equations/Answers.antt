@@ -4,7 +4,7 @@ use Rattle.sp_written.specs.Views as view
 use Rattle.sp_spec.specs.Constants.{once_after}
 use Rattle.sp_warn.specs.Constants.{in_equation}
 use Rattle.sp_declared.proofs.ConstantSteps.{next}
-use Rattle.sp_warn.specs.TextsView.{texts_of}
+use Rattle.sp_lines.specs.TextsView.{texts_of}
 use Rattle.sp_warn.proofs.constants.see_equations.Goals as goal
 
 pub loop-equation-preserved : goal.loop-equation-preserved

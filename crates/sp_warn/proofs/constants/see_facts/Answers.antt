@@ -2,7 +2,7 @@ use Rattle.std.proofs.Common.{refl}
 use Rattle.sp_read_parts.specs.Views.{fact_of, facts_of}
 use Rattle.sp_spec.specs.Constants.{once_after, in_terms, in_facts}
 use Rattle.sp_declared.proofs.ConstantSteps.{next}
-use Rattle.sp_warn.specs.TextsView.{texts_of}
+use Rattle.sp_lines.specs.TextsView.{texts_of}
 use Rattle.sp_warn.proofs.constants.see_facts.Goals as goal
 
 pub loop-fact-preserved : goal.loop-fact-preserved

@@ -1,7 +1,7 @@
 use Rattle.std.proofs.Common.{◌≡◌, drop}
 use Rattle.sp_read_parts.specs.Views.{facts_of}
 use Rattle.sp_spec.specs.Constants.{once_after, in_facts}
-use Rattle.sp_warn.specs.TextsView.{texts_of}
+use Rattle.sp_lines.specs.TextsView.{texts_of}
 use Rattle.sp_warn.proofs.constants.see_facts.Given as goal
 
 abbrev pub invariant-loop-fact : goal.invariant-loop-fact

@@ -3,7 +3,7 @@ use Rattle.sp_spec.proofs.Options.{on_so}
 use Rattle.sp_spec.specs.Constants.{once_after, in_formula}
 use Rattle.sp_read_parts.specs.Formulas.{formula}
 use Rattle.sp_declared.proofs.Named.{names_collected}
-use Rattle.sp_warn.specs.TextsView.{texts_of}
+use Rattle.sp_lines.specs.TextsView.{texts_of}
 use Rattle.sp_warn.proofs.constants.see_formula.Goals as goal
 
 pub returns : goal.returns

@@ -2,7 +2,7 @@ use Rattle.std.proofs.Common.{refl}
 use Rattle.std.specs.List.{flat_map}
 use Rattle.sp_written.specs.Views as view
 use Rattle.sp_declared.proofs.Stepping.{next}
-use Rattle.sp_warn.specs.TextsView.{texts_of}
+use Rattle.sp_lines.specs.TextsView.{texts_of}
 use Rattle.sp_warn.specs.Told.{lines_after}
 use Rattle.sp_warn.specs.Warnings.{induction_of_item}
 use Rattle.sp_warn.specs.ToldLaws.{told_both}

@@ -1,7 +1,7 @@
 use Rattle.std.proofs.Common.{◌∷◌, ◌++◌, [], map, refl, get_or}
 use Rattle.std.proofs.lemmas.List.{get_or_default}
 use Rattle.sp_warn.specs.FormView.{form_of}
-use Rattle.sp_warn.specs.TextsView.{texts_of}
+use Rattle.sp_lines.specs.TextsView.{texts_of}
 use Rattle.sp_warn.specs.Told.{lines_after}
 use Rattle.sp_warn.specs.Warnings.{several_among}
 use Rattle.sp_warn.proofs.Namesakes.{knows_nothing}
@@ -21,7 +21,7 @@ loop-form-preserved c =
       before ++ form_of (get_or read i _) ∷ [],
       c.in_ok-has_another.ensures.knows before inv.1,
       next_several before read c.args.forms.now.items i (get_or read i _) c.in_ok-has_another.has_another
-          (texts_of c.loop-form.lines) (texts_of c.tell_if.new.self) (lines_after (texts_of c.args.lines.now) (several_among [] (map form_of c.args.forms.now.items)))
+          (texts_of c.loop-form.lines) (texts_of c.tell_if.new.lines) (lines_after (texts_of c.args.lines.now) (several_among [] (map form_of c.args.forms.now.items)))
           c.deref-form-items.ensures.value c.loop-form-test.true (get_or_default read i _ (get_or read i _) c.loop-form-test.true) (c.in_ok-has_another.ensures.differs before inv.1) c.in_ok-tell_if.ensures inv.2,
     )
 

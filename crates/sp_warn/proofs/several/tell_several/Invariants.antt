@@ -2,7 +2,7 @@ use Rattle.std.proofs.Common.{◌≡◌, List, [], map, drop}
 use Rattle.sp_warn.specs.Firsts.{Knows}
 use Rattle.sp_warn.specs.Forms.{Form}
 use Rattle.sp_warn.specs.FormView.{form_of}
-use Rattle.sp_warn.specs.TextsView.{texts_of}
+use Rattle.sp_lines.specs.TextsView.{texts_of}
 use Rattle.sp_warn.specs.Told.{lines_after}
 use Rattle.sp_warn.specs.Warnings.{several_among}
 use Rattle.sp_warn.proofs.several.tell_several.Given as goal

@@ -2,7 +2,7 @@ use Rattle.std.proofs.Common.{◌∷◌, []}
 use Rattle.sp_read_parts.specs.Views.{fact_of, facts_of}
 use Rattle.sp_declared.proofs.Stepping.{next}
 use Rattle.sp_warn.specs.FormView.{made_of}
-use Rattle.sp_warn.specs.TextsView.{texts_of}
+use Rattle.sp_lines.specs.TextsView.{texts_of}
 use Rattle.sp_warn.specs.Told.{lines_after}
 use Rattle.sp_warn.specs.Warnings.{without_source}
 use Rattle.sp_warn.specs.ToldLaws.{told_both}

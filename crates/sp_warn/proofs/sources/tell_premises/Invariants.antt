@@ -1,7 +1,7 @@
 use Rattle.std.proofs.Common.{◌≡◌, drop}
 use Rattle.sp_read_parts.specs.Views.{facts_of}
 use Rattle.sp_warn.specs.FormView.{made_of}
-use Rattle.sp_warn.specs.TextsView.{texts_of}
+use Rattle.sp_lines.specs.TextsView.{texts_of}
 use Rattle.sp_warn.specs.Told.{lines_after}
 use Rattle.sp_warn.specs.Warnings.{without_source}
 use Rattle.sp_warn.proofs.sources.tell_premises.Given as goal

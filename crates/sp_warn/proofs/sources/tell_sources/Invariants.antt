@@ -3,7 +3,7 @@ use Rattle.std.specs.List.{flat_map}
 use Rattle.sp_declared.specs.WrittenRules.{rules_written}
 use Rattle.sp_written.specs.Views as view
 use Rattle.sp_warn.specs.FormView.{made_of}
-use Rattle.sp_warn.specs.TextsView.{texts_of}
+use Rattle.sp_lines.specs.TextsView.{texts_of}
 use Rattle.sp_warn.specs.Told.{lines_after}
 use Rattle.sp_warn.specs.Warnings.{sources_of_rule}
 use Rattle.sp_warn.proofs.sources.tell_sources.Given as goal

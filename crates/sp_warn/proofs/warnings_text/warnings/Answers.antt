@@ -7,7 +7,7 @@ use Rattle.sp_written.specs.Views as view
 use Rattle.sp_warn.specs.Constants.{constants_in, alike_among}
 use Rattle.sp_warn.specs.Forms.{made_in, forms_in}
 use Rattle.sp_warn.specs.FormView.{made_of}
-use Rattle.sp_warn.specs.TextsView.{texts_of}
+use Rattle.sp_lines.specs.TextsView.{texts_of}
 use Rattle.sp_warn.specs.Told.{lines_after}
 use Rattle.sp_warn.specs.Warnings.{sources_of_rule, actions_of_item, several_among, induction_of_item, warnings_on, lines_of}
 use Rattle.sp_warn.proofs.SameMade.{same_sources, same_actions}

@@ -3,7 +3,7 @@ use Rattle.sp_spec_text.specs.Written.{Item}
 use Rattle.sp_declared.specs.WrittenRules.{item_written, rules_written}
 use Rattle.sp_written.specs.Views as view
 use Rattle.sp_finding.specs.Finding.{Finding, lines_after}
-use Rattle.sp_finding.specs.View.{lines_of}
+use Rattle.sp_lines.specs.TextsView.{texts_of}
 use Rattle.sp_finding.proofs.Stepping.{next_told}
 use Rattle.sp_wf.specs.ItemFindings.{on_rules}
 use Rattle.sp_wf.specs.Told.{on_rule}
@@ -14,5 +14,5 @@ pub loop-item-preserved : goal.loop-item-preserved
 loop-item-preserved c =
     let all : List Item → List Finding = λ xs. on_rules (on_rule c.args.fault) (rules_written xs) in
     next_told (λ x. on_rules (on_rule c.args.fault) (item_written x)) all (rule_next (on_rule c.args.fault)) view.item c.deref-item-items.result.now c.args.items.now.items c.loop-item.item-index c.item-item.result
-    (lines_of c.loop-item.lines.items) (lines_of c.tell_if_rule.new.lines.items) (lines_after (lines_of c.args.lines.now.items) (all (view.items c.args.items.now.items)))
+    (texts_of c.loop-item.lines) (texts_of c.tell_if_rule.new.lines) (lines_after (texts_of c.args.lines.now) (all (view.items c.args.items.now.items)))
     c.deref-item-items.ensures.value c.loop-item-test.true c.item-item.is c.in_ok-tell_if_rule.ensures c.loop-item.invariant

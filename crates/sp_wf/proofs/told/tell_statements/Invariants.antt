@@ -1,7 +1,7 @@
 use Rattle.std.proofs.Common.{◌≡◌, drop}
 use Rattle.sp_written.specs.Views as view
 use Rattle.sp_finding.specs.Finding.{lines_after}
-use Rattle.sp_finding.specs.View.{lines_of}
+use Rattle.sp_lines.specs.TextsView.{texts_of}
 use Rattle.sp_wf_formulas.specs.Statements.{statements_in}
 use Rattle.sp_wf.specs.ItemFindings.{on_lemmas}
 use Rattle.sp_wf.specs.Told as told
@@ -9,5 +9,5 @@ use Rattle.sp_wf.proofs.told.tell_statements.Given as goal
 
 abbrev pub invariant-loop-item : goal.invariant-loop-item
 invariant-loop-item l =
-    lines_after (lines_of l.lines.items) (on_lemmas (told.on_statement l.fault) (statements_in (view.items (drop l.item-index l.items.items))))
-    ≡ lines_after (lines_of l.fn.lines.items) (on_lemmas (told.on_statement l.fault) (statements_in (view.items l.items.items)))
+    lines_after (texts_of l.lines) (on_lemmas (told.on_statement l.fault) (statements_in (view.items (drop l.item-index l.items.items))))
+    ≡ lines_after (texts_of l.fn.lines) (on_lemmas (told.on_statement l.fault) (statements_in (view.items l.items.items)))

@@ -2,9 +2,9 @@ use Rattle.std.proofs.Common.{◌≡◌, drop, map}
 use Rattle.sp_read_parts.specs.Views.{action_of}
 use Rattle.sp_wf_rules.specs.RuleFindings.{wrong_actions}
 use Rattle.sp_finding.specs.Finding.{lines_after}
-use Rattle.sp_finding.specs.View.{lines_of}
+use Rattle.sp_lines.specs.TextsView.{texts_of}
 use Rattle.sp_wf_rules.proofs.facts.tell_actions.Given as goal
 
 abbrev pub invariant-loop-action : goal.invariant-loop-action
 invariant-loop-action l =
-    lines_after (lines_of l.lines.items) (wrong_actions l.rule (map action_of (drop l.action-index l.actions.items))) ≡ lines_after (lines_of l.fn.lines.items) (wrong_actions l.rule (map action_of l.actions.items))
+    lines_after (texts_of l.lines) (wrong_actions l.rule (map action_of (drop l.action-index l.actions.items))) ≡ lines_after (texts_of l.fn.lines) (wrong_actions l.rule (map action_of l.actions.items))

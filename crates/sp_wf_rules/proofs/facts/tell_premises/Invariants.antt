@@ -2,8 +2,8 @@ use Rattle.std.proofs.Common.{◌≡◌, drop}
 use Rattle.sp_read_parts.specs.Views.{facts_of}
 use Rattle.sp_wf_rules.specs.RuleFindings.{wrong_premises}
 use Rattle.sp_finding.specs.Finding.{lines_after}
-use Rattle.sp_finding.specs.View.{lines_of}
+use Rattle.sp_lines.specs.TextsView.{texts_of}
 use Rattle.sp_wf_rules.proofs.facts.tell_premises.Given as goal
 
 abbrev pub invariant-loop-fact : goal.invariant-loop-fact
-invariant-loop-fact l = lines_after (lines_of l.lines.items) (wrong_premises l.rule (facts_of (drop l.fact-index l.premises.items))) ≡ lines_after (lines_of l.fn.lines.items) (wrong_premises l.rule (facts_of l.premises.items))
+invariant-loop-fact l = lines_after (texts_of l.lines) (wrong_premises l.rule (facts_of (drop l.fact-index l.premises.items))) ≡ lines_after (texts_of l.fn.lines) (wrong_premises l.rule (facts_of l.premises.items))

@@ -1,13 +1,13 @@
-use Rattle.std.proofs.Common.{◌≡◌, drop, map}
-use Rattle.sp_fact.specs.GroundView.{symbol_of}
+use Rattle.std.proofs.Common.{◌≡◌, drop}
 use Rattle.sp_spec_text.specs.Written.{builtins_in}
+use Rattle.sp_wf_symbols.specs.FirstsView.{symbols_of}
 use Rattle.sp_wf_symbols.specs.Told.{otherwise_named}
 use Rattle.sp_written.specs.Views as view
 use Rattle.sp_finding.specs.Finding.{lines_after}
-use Rattle.sp_finding.specs.View.{lines_of}
+use Rattle.sp_lines.specs.TextsView.{texts_of}
 use Rattle.sp_wf_symbols.proofs.symbols.tell_all_builtins.Given as goal
 
 abbrev pub invariant-loop-item : goal.invariant-loop-item
 invariant-loop-item l =
-    lines_after (lines_of l.lines.items) (otherwise_named (map symbol_of l.symbols.items) (builtins_in (view.items (drop l.item-index l.items.items))))
-    ≡ lines_after (lines_of l.fn.lines.items) (otherwise_named (map symbol_of l.symbols.items) (builtins_in (view.items l.items.items)))
+    lines_after (texts_of l.lines) (otherwise_named (symbols_of l.symbols) (builtins_in (view.items (drop l.item-index l.items.items))))
+    ≡ lines_after (texts_of l.fn.lines) (otherwise_named (symbols_of l.symbols) (builtins_in (view.items l.items.items)))

@@ -3,10 +3,10 @@ use Rattle.sp_spec_text.specs.Written.{builtins_in}
 use Rattle.sp_wf_symbols.specs.SymbolFindings.{left_out}
 use Rattle.sp_written.specs.Views as view
 use Rattle.sp_finding.specs.Finding.{lines_after}
-use Rattle.sp_finding.specs.View.{lines_of}
+use Rattle.sp_lines.specs.TextsView.{texts_of}
 use Rattle.sp_wf_symbols.proofs.symbols.tell_left_out.Given as goal
 
 abbrev pub invariant-loop-item : goal.invariant-loop-item
 invariant-loop-item l =
-    lines_after (lines_of l.lines.items) (left_out (builtins_in (view.items (drop l.item-index l.items.items))))
-    ≡ lines_after (lines_of l.fn.lines.items) (left_out (builtins_in (view.items l.items.items)))
+    lines_after (texts_of l.lines) (left_out (builtins_in (view.items (drop l.item-index l.items.items))))
+    ≡ lines_after (texts_of l.fn.lines) (left_out (builtins_in (view.items l.items.items)))

@@ -5,8 +5,7 @@ use Rattle.sp_words.proofs.arguments.spthy.Goals as goal
 
 pub returns : goal.returns
 returns c =
-    let proves = c.in_ok-proves.ensures.shape c.in_ok-proving.ensures.local ∙ ap₂ with_words c.new.ensures.app c.in_ok-proving.ensures.app in
-    let checks = c.in_ok-checks.ensures.shape c.in_ok-on_file.ensures.local ∙ ap₂ with_words proves c.in_ok-on_file.ensures.app in
-    let replays = c.in_ok-replays.ensures.shape c.in_ok-on_file-2.ensures.local ∙ ap₂ with_words checks c.in_ok-on_file-2.ensures.app in
-    let shows = c.in_ok-shows.ensures.shape c.in_ok-on_file-3.ensures.local ∙ ap₂ with_words replays c.in_ok-on_file-3.ensures.app in
-    required_is c.in_ok-shows.shows c.subcommand_required.result c.subcommand_required.ensures shows
+    let finds = c.in_ok-finds.ensures.shape c.in_ok-on_file.ensures.local ∙ ap₂ with_words c.in_ok-first_four.ensures c.in_ok-on_file.ensures.app in
+    let draws = c.in_ok-draws.ensures.shape c.in_ok-drawing.ensures.local ∙ ap₂ with_words finds c.in_ok-drawing.ensures.app in
+    let makes = c.in_ok-makes.ensures.shape c.in_ok-making.ensures.local ∙ ap₂ with_words draws c.in_ok-making.ensures.app in
+    required_is c.in_ok-makes.makes c.subcommand_required.result c.subcommand_required.ensures makes

@@ -1,0 +1,4 @@
+pub mod Atomic
+pub mod Apart
+pub mod Taken
+pub mod LetBindings

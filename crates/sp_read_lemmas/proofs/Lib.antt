@@ -1,0 +1,4 @@
+pub mod One
+pub mod LemmaHeads
+pub mod LemmaParts
+pub mod Suffix

@@ -1,0 +1,12 @@
+use Rattle.std.proofs.Common.{◌≡◌, drop}
+use Rattle.sp_wf.specs.ItemFindings.{unknown_in_items}
+use Rattle.sp_written.specs.Views as view
+use Rattle.sp_finding.specs.Finding.{lines_after}
+use Rattle.sp_finding.specs.KnownView.{symbols_of}
+use Rattle.sp_lines.specs.TextsView.{texts_of}
+use Rattle.sp_wf.proofs.unknown.tell_unknown_in_items.Given as goal
+
+abbrev pub invariant-loop-item : goal.invariant-loop-item
+invariant-loop-item l =
+    lines_after (texts_of l.lines) (unknown_in_items (symbols_of l.symbols) (view.items (drop l.item-index l.items.items)))
+    ≡ lines_after (texts_of l.fn.lines) (unknown_in_items (symbols_of l.symbols) (view.items l.items.items))
