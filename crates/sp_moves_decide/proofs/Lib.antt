@@ -1,0 +1,3 @@
+pub mod NewVariables
+pub mod Parted
+pub mod Standing

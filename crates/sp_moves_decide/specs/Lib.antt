@@ -1,0 +1,4 @@
+pub mod Another
+pub mod Open
+pub mod Sought
+pub mod SoughtView
