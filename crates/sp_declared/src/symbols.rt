@@ -1,29 +1,30 @@
 // The symbols of a theory: those of pairs, of its builtins and of its own.
 
 ghost use Rattle.std.specs.Prelude.{◌≡◌, [], ◌∷◌, IfOk, OnOk, map};
+ghost use Rattle.sp_spec.specs.Signature.{pair_symbols};
 ghost use Rattle.sp_term.specs.View.{name_of};
 ghost use Rattle.sp_fact.specs.GroundView.{symbol_of};
+ghost use Rattle.sp_lines.specs.TextsView.{texts_of};
 ghost use Rattle.sp_spec_text.specs.Written.{item_builtins, item_functions, builtins_in, functions_in};
 ghost use Rattle.sp_spec_text.specs.Declared as spec;
 ghost use Rattle.sp_written.specs.Views as view;
-ghost use Rattle.sp_declared.specs.Symbols.{declared_after, symbols_named};
+ghost use Rattle.sp_declared.specs.Symbols.{declared_after, names_of, symbols_named};
 
 use crate::builtins::Builtin;
 use sp_fact::signature::{Signature, Symbol};
+use sp_lines::Texts;
 use sp_term::term::Name;
 use sp_written::Item;
 use std::alloc::{AllocError, Global};
 
-/// Whether one of the symbols has this name.
-fn is_named(name: &str, symbols: &Vec<Symbol>) -> bool
-    ensures { result ≡ spec.is_named name.now (map symbol_of symbols.now.items) }
-{
-    for symbol in symbols {
-        if symbol.name.text.as_str() == name {
-            return true;
-        }
-    }
-    false
+/// The symbols that are declared so far, among which one's name is found without going over all of them.
+#[derive(Drop)]
+struct Declared {
+    /// the symbols, in the order in which they are declared
+    symbols: Vec<Symbol>,
+    /// their names
+    names: Texts,
+    ghost is_exact: { texts_of names ≡ names_of (map symbol_of symbols.items) },
 }
 
 /// Whether one of the symbols has this name and takes no arguments.
@@ -38,13 +39,14 @@ pub fn names_constant(symbols: &Vec<Symbol>, name: &str) -> bool
     false
 }
 
-/// Puts the symbol at the end, unless there is one of its name.
-#[tactic(auto, using(crate::proofs::Declaring::declared_one))]
-fn declare(symbols: &mut Vec<Symbol>, symbol: Symbol) -> Result<(), AllocError>
-    ensures { OnOk result (map symbol_of symbols.new.items ≡ declared_after (map symbol_of symbols.old.items) (symbol_of symbol ∷ [])) }
+/// Puts the symbol at the end, unless there is one of its name. Room for it is made before its name is put among theirs.
+fn declare(alloc: Global, declared: &mut Declared, symbol: Symbol) -> Result<(), AllocError>
+    ensures { OnOk result (map symbol_of declared.new.symbols.items ≡ declared_after (map symbol_of declared.old.symbols.items) (symbol_of symbol ∷ [])) }
 {
-    if !is_named(symbol.name.text.as_str(), symbols) {
-        symbols.push(symbol)?;
+    let name = String::from_str(alloc, symbol.name.text.as_str())?;
+    declared.symbols.reserve(1)?;
+    if declared.names.see(name)? {
+        declared.symbols.push(symbol)?;
     }
     Ok(())
 }
@@ -62,24 +64,24 @@ fn copy(symbol: &Symbol) -> Result<Symbol, AllocError>
 }
 
 /// Puts the symbols at the end, each unless there is one of its name.
-fn declare_all(symbols: &mut Vec<Symbol>, more: &Vec<Symbol>) -> Result<(), AllocError>
-    ensures { OnOk result (map symbol_of symbols.new.items ≡ declared_after (map symbol_of symbols.old.items) (map symbol_of more.now.items)) }
+fn declare_all(alloc: Global, declared: &mut Declared, more: &Vec<Symbol>) -> Result<(), AllocError>
+    ensures { OnOk result (map symbol_of declared.new.symbols.items ≡ declared_after (map symbol_of declared.old.symbols.items) (map symbol_of more.now.items)) }
 {
     for symbol in more {
         let copied = copy(symbol)?;
-        declare(symbols, copied)?;
+        declare(alloc, declared, copied)?;
     }
     Ok(())
 }
 
 /// The same of the symbols of a builtin, if this is the name of one.
-fn declare_builtin(alloc: Global, symbols: &mut Vec<Symbol>, name: &Name) -> Result<(), AllocError>
-    ensures { OnOk result (map symbol_of symbols.new.items ≡ declared_after (map symbol_of symbols.old.items) (spec.builtin_symbols (spec.builtin_of (name_of name.now)))) }
+fn declare_builtin(alloc: Global, declared: &mut Declared, name: &Name) -> Result<(), AllocError>
+    ensures { OnOk result (map symbol_of declared.new.symbols.items ≡ declared_after (map symbol_of declared.old.symbols.items) (spec.builtin_symbols (spec.builtin_of (name_of name.now)))) }
 {
     match Builtin::named(name.text.as_str()) {
         Some(builtin) => {
             let more = builtin.symbols(alloc)?;
-            declare_all(symbols, &more)?;
+            declare_all(alloc, declared, &more)?;
             Ok(())
         }
         None => Ok(()),
@@ -89,13 +91,13 @@ fn declare_builtin(alloc: Global, symbols: &mut Vec<Symbol>, name: &Name) -> Res
 /// The same of builtins with these names.
 fn declare_builtins(
     alloc: Global,
-    symbols: &mut Vec<Symbol>,
+    declared: &mut Declared,
     names: &Vec<Name>,
 ) -> Result<(), AllocError>
-    ensures { OnOk result (map symbol_of symbols.new.items ≡ declared_after (map symbol_of symbols.old.items) (symbols_named (map name_of names.now.items))) }
+    ensures { OnOk result (map symbol_of declared.new.symbols.items ≡ declared_after (map symbol_of declared.old.symbols.items) (symbols_named (map name_of names.now.items))) }
 {
     for name in names {
-        declare_builtin(alloc, symbols, name)?;
+        declare_builtin(alloc, declared, name)?;
     }
     Ok(())
 }
@@ -103,23 +105,27 @@ fn declare_builtins(
 /// The same of the builtins that the item names.
 fn declare_builtins_of(
     alloc: Global,
-    symbols: &mut Vec<Symbol>,
+    declared: &mut Declared,
     item: &Item,
 ) -> Result<(), AllocError>
-    ensures { OnOk result (map symbol_of symbols.new.items ≡ declared_after (map symbol_of symbols.old.items) (symbols_named (item_builtins (view.item item.now)))) }
+    ensures { OnOk result (map symbol_of declared.new.symbols.items ≡ declared_after (map symbol_of declared.old.symbols.items) (symbols_named (item_builtins (view.item item.now)))) }
 {
     match item {
-        Item::Builtins(names) => declare_builtins(alloc, symbols, names),
+        Item::Builtins(names) => declare_builtins(alloc, declared, names),
         _ => Ok(()),
     }
 }
 
 /// The same of the symbols that the item declares itself.
-fn declare_functions_of(symbols: &mut Vec<Symbol>, item: &Item) -> Result<(), AllocError>
-    ensures { OnOk result (map symbol_of symbols.new.items ≡ declared_after (map symbol_of symbols.old.items) (item_functions (view.item item.now))) }
+fn declare_functions_of(
+    alloc: Global,
+    declared: &mut Declared,
+    item: &Item,
+) -> Result<(), AllocError>
+    ensures { OnOk result (map symbol_of declared.new.symbols.items ≡ declared_after (map symbol_of declared.old.symbols.items) (item_functions (view.item item.now))) }
 {
     match item {
-        Item::Functions(more) => declare_all(symbols, more),
+        Item::Functions(more) => declare_all(alloc, declared, more),
         _ => Ok(()),
     }
 }
@@ -127,25 +133,42 @@ fn declare_functions_of(symbols: &mut Vec<Symbol>, item: &Item) -> Result<(), Al
 /// The same of all builtins.
 fn declare_all_builtins(
     alloc: Global,
-    symbols: &mut Vec<Symbol>,
+    declared: &mut Declared,
     items: &Vec<Item>,
 ) -> Result<(), AllocError>
-    ensures { OnOk result (map symbol_of symbols.new.items ≡ declared_after (map symbol_of symbols.old.items) (symbols_named (builtins_in (view.items items.now.items)))) }
+    ensures { OnOk result (map symbol_of declared.new.symbols.items ≡ declared_after (map symbol_of declared.old.symbols.items) (symbols_named (builtins_in (view.items items.now.items)))) }
 {
     for item in items {
-        declare_builtins_of(alloc, symbols, item)?;
+        declare_builtins_of(alloc, declared, item)?;
     }
     Ok(())
 }
 
 /// The same of all items' own symbols.
-fn declare_all_functions(symbols: &mut Vec<Symbol>, items: &Vec<Item>) -> Result<(), AllocError>
-    ensures { OnOk result (map symbol_of symbols.new.items ≡ declared_after (map symbol_of symbols.old.items) (functions_in (view.items items.now.items))) }
+fn declare_all_functions(
+    alloc: Global,
+    declared: &mut Declared,
+    items: &Vec<Item>,
+) -> Result<(), AllocError>
+    ensures { OnOk result (map symbol_of declared.new.symbols.items ≡ declared_after (map symbol_of declared.old.symbols.items) (functions_in (view.items items.now.items))) }
 {
     for item in items {
-        declare_functions_of(symbols, item)?;
+        declare_functions_of(alloc, declared, item)?;
     }
     Ok(())
+}
+
+/// The symbols of pairs.
+fn of_pairs(alloc: Global) -> Result<Declared, AllocError>
+    ensures { IfOk result (λ declared. map symbol_of declared.symbols.items ≡ pair_symbols) }
+{
+    let mut declared = Declared {
+        symbols: Vec::new(alloc),
+        names: Texts::new(alloc),
+    };
+    let pairs = Signature::pairs(alloc)?;
+    declare_all(alloc, &mut declared, &pairs.symbols)?;
+    Ok(declared)
 }
 
 /// All symbols of the theory with these items: those of pairs, of its builtins and of its own, of each name the first.
@@ -157,8 +180,8 @@ fn declare_all_functions(symbols: &mut Vec<Symbol>, items: &Vec<Item>) -> Result
 pub fn symbols(alloc: Global, items: &Vec<Item>) -> Result<Vec<Symbol>, AllocError>
     ensures { IfOk result (λ ss. map symbol_of ss.items ≡ spec.all_symbols (view.items items.now.items)) }
 {
-    let mut symbols = Signature::pairs(alloc)?.symbols;
-    declare_all_builtins(alloc, &mut symbols, items)?;
-    declare_all_functions(&mut symbols, items)?;
-    Ok(symbols)
+    let mut declared = of_pairs(alloc)?;
+    declare_all_builtins(alloc, &mut declared, items)?;
+    declare_all_functions(alloc, &mut declared, items)?;
+    Ok(declared.symbols)
 }

@@ -1,5 +1,5 @@
--- A text that is put among others stands there once.
-use Rattle.std.proofs.Common.{◌≡◌, Bool, true, false, ◌||◌, if◌then◌else◌, List, [], ◌∷◌, ◌++◌, map, refl, ap, ap₂, ◌∙◌}
+-- A text that is put among others stands there once, and is new exactly where it isn't listed.
+use Rattle.std.proofs.Common.{◌≡◌, Bool, true, false, not, ◌||◌, if◌then◌else◌, List, [], ◌∷◌, ◌++◌, map, refl, ap, ap₂, ◌∙◌}
 use Rattle.std.proofs.lemmas.List.{map-append}
 use Rattle.std.proofs.lemmas.Cmp.{nat_list_eq_equiv}
 use Rattle.std.specs.Prelude.{String, string_bytes}
@@ -23,3 +23,7 @@ module _ {A : Type 0} where
   seen_once ks ns k e =
       ap (map string_bytes) e ∙ put (list_any (λ y. bytes_eq (string_bytes k) (string_bytes y)) ks) ks k
       ∙ ap (λ (b : Bool). if b then map string_bytes ks else map string_bytes ks ++ string_bytes k ∷ []) (listed k ks)
+
+  pub new_text : (b : Bool) (ks : List (String A)) (k : String A) → b ≡ not (list_any (λ y. bytes_eq (string_bytes k) (string_bytes y)) ks)
+      → b ≡ not (is_listed (string_bytes k) (map string_bytes ks))
+  new_text b ks k e = e ∙ ap not (listed k ks)

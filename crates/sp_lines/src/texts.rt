@@ -1,6 +1,7 @@
 // Texts, each once.
 
-ghost use Rattle.std.specs.Prelude.{◌≡◌, ◌∷◌, [], IfOk, OnOk, map, string_bytes};
+ghost use Rattle.std.specs.Prelude.{◌≡◌, ◌∷◌, [], IfOk, OnErr, OnOk, map, not, string_bytes};
+ghost use Rattle.sp_spec.specs.Lists.{is_listed};
 ghost use Rattle.sp_spec.specs.Constants.{once_after};
 ghost use Rattle.sp_lines.specs.TextsView.{texts_of};
 
@@ -23,17 +24,19 @@ impl Texts {
         }
     }
 
-    /// Puts the text at the end, unless it is there.
+    /// Puts the text at the end, unless it is there; says whether it wasn't.
     ///
     /// # Errors
     ///
-    /// `AllocError` where memory is wanting.
-    #[tactic(auto, using(crate::proofs::Seen::seen_once))]
-    pub fn see(&mut self, text: String) -> Result<(), AllocError>
-        ensures { OnOk result (texts_of self.new ≡ once_after (texts_of self.old) (string_bytes text ∷ [])) }
+    /// `AllocError` where memory is wanting; the texts stay.
+    #[tactic(auto, using(crate::proofs::Seen::seen_once, crate::proofs::Seen::new_text))]
+    pub fn see(&mut self, text: String) -> Result<bool, AllocError>
+        ensures seen { OnOk result (texts_of self.new ≡ once_after (texts_of self.old) (string_bytes text ∷ [])) }
+        ensures is_new { IfOk result (λ b. b ≡ not (is_listed (string_bytes text) (texts_of self.old))) }
+        ensures unchanged { OnErr result (texts_of self.new ≡ texts_of self.old) }
     {
-        self.texts.insert(text)?;
-        Ok(())
+        let is_new = self.texts.insert(text)?;
+        Ok(is_new)
     }
 
     /// The texts, in their order.

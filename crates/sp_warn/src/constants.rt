@@ -26,7 +26,8 @@ use std::alloc::{AllocError, Global};
 fn see_constant(alloc: Global, seen: &mut Texts, constant: &Name) -> Result<(), AllocError>
     ensures { OnOk result (texts_of seen.new ≡ once_after (texts_of seen.old) (name_of constant.now ∷ [])) }
 {
-    seen.see(String::from_str(alloc, constant.text.as_str())?)
+    seen.see(String::from_str(alloc, constant.text.as_str())?)?;
+    Ok(())
 }
 
 /// Puts the constants of a term at the end, each unless it is there.

@@ -1,9 +1,10 @@
--- Names that are looked up in sets instead of lists.
-use Rattle.std.proofs.Common.{◌≡◌, ℕ, ◌+◌, ◌<◌, Bool, true, false, cond, ◌||◌, List, [], ◌∷◌, ◌++◌, map, drop, length, get_or, String, refl, sym, ap, ap₂, ◌∙◌, append_assoc}
+-- Names that are looked up by a test instead of in lists with the newest first.
+use Rattle.std.proofs.Common.{◌≡◌, ℕ, ◌+◌, ◌<◌, Bool, true, false, ◌||◌, if◌then◌else◌, List, [], ◌∷◌, ◌++◌, map, drop, length, get_or, refl, sym, ap, ap₂, ◌∙◌, append_assoc}
 use Rattle.std.proofs.lemmas.List.{get_or_default}
+use Rattle.std.proofs.lemmas.Slice.Eq.{bytes_eq-Decides}
 use Rattle.std.specs.Str.{bytes_eq}
-use Rattle.std.specs.BTreeSet.{BTreeSet, IsEmpty, contains_text}
-use Rattle.sp_spec.specs.Written.{is_listed}
+use Rattle.sp_spec.specs.Lists.{is_listed}
+use Rattle.sp_spec.specs.Constants.{once_after}
 use Rattle.sp_spec.proofs.Lists.{next_there}
 use Rattle.sp_spec_text.specs.Written.{Item}
 use Rattle.sp_finding.specs.Finding.{Finding, used_twice, told, lines_after}
@@ -90,14 +91,30 @@ next_seen say view ys xs i d a b target f g same less told put inv =
     ∙ told_on a (f n) (say n) (again say (λ q. bytes_eq n q || f q) rest)
     ∙ ap (λ zs. lines_after a (again say f (map view zs))) (sym (next_there ys xs i x same less (get_or_default ys i d x less))) ∙ inv
 
--- ---- sets of names
+-- ---- names that are put among others
 
-pub no_names : {A : Type 0} (s : BTreeSet (String A)) → IsEmpty s → (q : List ℕ) → contains_text s q ≡ false
-no_names s e q = rw e refl
+pub no_names : (names : List (List ℕ)) → names ≡ [] → (q : List ℕ) → is_listed q names ≡ false
+no_names names e q = ap (is_listed q) e
 
-pub one_more : (name key q : List ℕ) (old new : Bool) → key ≡ name → new ≡ cond (bytes_eq key q) true old → new ≡ (bytes_eq name q || old)
-one_more name key q old new same e = e ∙ by_cases (bytes_eq key q) ∙ ap (λ (x : List ℕ). bytes_eq x q || old) same
+behind : (name q : List ℕ) (names : List (List ℕ)) → is_listed q (names ++ name ∷ []) ≡ (bytes_eq name q || is_listed q names)
+behind name q [] = refl
+behind name q (x ∷ names) = ap (λ (b : Bool). bytes_eq x q || b) (behind name q names) ∙ turned (bytes_eq x q) (bytes_eq name q) (is_listed q names)
   where
-    by_cases : (b : Bool) → cond b true old ≡ (b || old)
-    by_cases true = refl
-    by_cases false = refl
+    turned : (a b c : Bool) → (a || (b || c)) ≡ (b || (a || c))
+    turned true true c = refl
+    turned true false c = refl
+    turned false b c = refl
+
+there_already : (name q : List ℕ) (names : List (List ℕ)) → is_listed name names ≡ true → is_listed q names ≡ (bytes_eq name q || is_listed q names)
+there_already name q names e = at (bytes_eq name q) refl
+  where
+    at : (b : Bool) → bytes_eq name q ≡ b → is_listed q names ≡ (b || is_listed q names)
+    at true k = ap (λ (n : List ℕ). is_listed n names) (sym ((bytes_eq-Decides name q).0 k)) ∙ e
+    at false k = refl
+
+pub one_more : (name key q : List ℕ) (names after : List (List ℕ)) → key ≡ name → after ≡ once_after names (key ∷ []) → is_listed q after ≡ (bytes_eq name q || is_listed q names)
+one_more name key q names after same e = ap (is_listed q) e ∙ at (is_listed key names) refl ∙ ap (λ (n : List ℕ). bytes_eq n q || is_listed q names) same
+  where
+    at : (b : Bool) → is_listed key names ≡ b → is_listed q (if b then names else names ++ key ∷ []) ≡ (bytes_eq key q || is_listed q names)
+    at true k = there_already key q names k
+    at false k = behind key q names

@@ -1,11 +1,14 @@
 -- The tests that the code makes, one kind after the other, and item by item.
 use Rattle.std.specs.Prelude.{ℕ, Bool, ◌||◌, List, [], ◌∷◌, ◌++◌, map}
 use Rattle.std.specs.Str.{bytes_eq}
+use Rattle.sp_spec.specs.Lists.{is_listed}
 use Rattle.sp_spec.specs.Theory.{Lemma}
 use Rattle.sp_spec.specs.Written.{WrittenRule}
 use Rattle.sp_spec_text.specs.Written.{Item}
 use Rattle.sp_spec.specs.Signature.{Equation}
 use Rattle.sp_fact.specs.GroundView.{equation_of}
+use Rattle.sp_lines.specs.declared.texts.Texts.{Texts}
+use Rattle.sp_lines.specs.TextsView.{texts_of}
 use Rattle.sp_finding.specs.Finding.{Finding, used_twice, told}
 use Rattle.sp_wf_rules.specs.RuleFindings.{reserved_in_rule, arguments_in_rule, destructors_in_rule, unbound_in_rule}
 use Rattle.sp_wf_rules.specs.BindingFindings.{BoundNames}
@@ -37,6 +40,10 @@ on_statement f.OtherSort = sorts_in_lemma
 on_statement f.Mixed = mixed_in_lemma
 
 -- ---- names, where those before are known by a test
+
+-- it is one of these names
+abbrev pub is_one_of : Texts → List ℕ → Bool
+is_one_of names q = is_listed q (texts_of names)
 
 -- it is one of these names, or passes the test
 abbrev pub or_one_of : List (List ℕ) → (List ℕ → Bool) → List ℕ → Bool

@@ -1,35 +1,33 @@
 // The findings on the names of rules, on those of restrictions and lemmas, and on the names that a rule binds.
 
 ghost use Rattle.std.specs.Prelude.{◌≡◌, ◌||◌, ℕ, List, [], OnOk, bytes_eq};
-ghost use Rattle.std.specs.BTreeSet.{contains_text};
 ghost use Rattle.sp_written.specs.Views as view;
 ghost use Rattle.sp_finding.specs.Finding.{bound_twice, lines_after, told};
 ghost use Rattle.sp_finding.specs.View.{finding_of};
 ghost use Rattle.sp_lines.specs.TextsView.{texts_of};
 ghost use Rattle.sp_wf_rules.specs.BindingView.{names_of};
 ghost use Rattle.sp_wf.specs.ItemFindings as spec;
-ghost use Rattle.sp_wf.specs.Told.{or_one_of, item_again};
+ghost use Rattle.sp_wf.specs.Told.{is_one_of, or_one_of, item_again};
 
 use sp_finding::{Finding, RuleFinding, tell_if};
 use sp_lines::Texts;
 use sp_wf_rules::BoundNames;
 use sp_written::Item;
 use std::alloc::{AllocError, Global};
-use std::collections::BTreeSet;
 
 /// Tells of the name what is said of it, where it is one of these, and puts it among them.
 fn tell_name(
     alloc: Global,
     lines: &mut Texts,
-    names: &mut BTreeSet<String>,
+    names: &mut Texts,
     name: &str,
     finding: Finding,
 ) -> Result<(), AllocError>
-    ensures is_told { OnOk result (texts_of lines.new ≡ lines_after (texts_of lines.old) (told (contains_text names.old name.now) (finding_of finding.entry) [])) }
-    ensures is_put { OnOk result ((q : List ℕ) → contains_text names.new q ≡ (bytes_eq name.now q || contains_text names.old q)) }
+    ensures is_told { OnOk result (texts_of lines.new ≡ lines_after (texts_of lines.old) (told (is_one_of names.old name.now) (finding_of finding.entry) [])) }
+    ensures is_put { OnOk result ((q : List ℕ) → is_one_of names.new q ≡ (bytes_eq name.now q || is_one_of names.old q)) }
 {
     let key = String::from_str(alloc, name)?;
-    let is_new = names.insert(key)?;
+    let is_new = names.see(key)?;
     tell_if(alloc, lines, !is_new, finding)?;
     Ok(())
 }
@@ -38,13 +36,13 @@ fn tell_name(
 fn tell_item_name(
     alloc: Global,
     lines: &mut Texts,
-    rules: &mut BTreeSet<String>,
-    statements: &mut BTreeSet<String>,
+    rules: &mut Texts,
+    statements: &mut Texts,
     item: &Item,
 ) -> Result<(), AllocError>
-    ensures is_told { OnOk result (texts_of lines.new ≡ lines_after (texts_of lines.old) (item_again (contains_text rules.old) (contains_text statements.old) (view.item item.now))) }
-    ensures in_rules { OnOk result ((q : List ℕ) → contains_text rules.new q ≡ or_one_of (spec.names_of_rules (view.item item.now)) (contains_text rules.old) q) }
-    ensures in_statements { OnOk result ((q : List ℕ) → contains_text statements.new q ≡ or_one_of (spec.names_of_statements (view.item item.now)) (contains_text statements.old) q) }
+    ensures is_told { OnOk result (texts_of lines.new ≡ lines_after (texts_of lines.old) (item_again (is_one_of rules.old) (is_one_of statements.old) (view.item item.now))) }
+    ensures in_rules { OnOk result ((q : List ℕ) → is_one_of rules.new q ≡ or_one_of (spec.names_of_rules (view.item item.now)) (is_one_of rules.old) q) }
+    ensures in_statements { OnOk result ((q : List ℕ) → is_one_of statements.new q ≡ or_one_of (spec.names_of_statements (view.item item.now)) (is_one_of statements.old) q) }
 {
     match item {
         Item::Rule(bound) => {
@@ -67,8 +65,8 @@ fn tell_item_name(
 pub fn tell_names(alloc: Global, lines: &mut Texts, items: &Vec<Item>) -> Result<(), AllocError>
     ensures { OnOk result (texts_of lines.new ≡ lines_after (texts_of lines.old) (spec.repeated [] [] (view.items items.now.items))) }
 {
-    let mut rules = BTreeSet::new(alloc);
-    let mut statements = BTreeSet::new(alloc);
+    let mut rules = Texts::new(alloc);
+    let mut statements = Texts::new(alloc);
     for item in items {
         tell_item_name(alloc, lines, &mut rules, &mut statements, item)?;
     }
@@ -84,7 +82,7 @@ pub fn tell_twice(
 ) -> Result<(), AllocError>
     ensures { OnOk result (texts_of lines.new ≡ lines_after (texts_of lines.old) (spec.told_again (bound_twice rule.now) [] (names_of bound.now).bound)) }
 {
-    let mut seen = BTreeSet::new(alloc);
+    let mut seen = Texts::new(alloc);
     for name in &bound.bound {
         let finding = Finding::OnRule(rule, RuleFinding::BoundTwice(*name));
         tell_name(alloc, lines, &mut seen, *name, finding)?;

@@ -7,5 +7,5 @@ use Rattle.sp_declared.proofs.symbols.declare_all_builtins.Given as goal
 
 abbrev pub invariant-loop-item : goal.invariant-loop-item
 invariant-loop-item l =
-    declared_after (map symbol_of l.symbols.items) (symbols_named (builtins_in (view.items (drop l.item-index l.items.items))))
-    ≡ declared_after (map symbol_of l.fn.symbols.items) (symbols_named (builtins_in (view.items l.items.items)))
+    declared_after (map symbol_of l.declared.symbols.items) (symbols_named (builtins_in (view.items (drop l.item-index l.items.items))))
+    ≡ declared_after (map symbol_of l.fn.declared.symbols.items) (symbols_named (builtins_in (view.items l.items.items)))

@@ -11,6 +11,6 @@ pub loop-item-preserved : goal.loop-item-preserved
 loop-item-preserved c =
     next declared_after declared_both (λ x. item_functions (view.item x)) (λ xs. functions_in (view.items xs)) (λ x xs. refl)
     c.deref-item-items.result.now c.args.items.now.items c.loop-item.item-index c.item-item.result
-    (map symbol_of c.loop-item.symbols.items) (map symbol_of c.declare_functions_of.new.symbols.items)
-    (declared_after (map symbol_of c.args.symbols.now.items) (functions_in (view.items c.args.items.now.items)))
+    (map symbol_of c.loop-item.declared.symbols.items) (map symbol_of c.declare_functions_of.new.declared.symbols.items)
+    (declared_after (map symbol_of c.args.declared.now.symbols.items) (functions_in (view.items c.args.items.now.items)))
     c.deref-item-items.ensures.value c.loop-item-test.true c.item-item.is c.in_ok-declare_functions_of.ensures c.loop-item.invariant

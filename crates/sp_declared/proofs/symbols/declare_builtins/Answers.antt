@@ -11,6 +11,6 @@ pub loop-name-preserved : goal.loop-name-preserved
 loop-name-preserved c =
     next declared_after declared_both (λ b. builtin_symbols (builtin_of (name_of b))) (λ bs. symbols_named (map name_of bs)) (λ b bs. refl)
     c.deref-name-items.result.now c.args.names.now.items c.loop-name.name-index c.name-item.result
-    (map symbol_of c.loop-name.symbols.items) (map symbol_of c.declare_builtin.new.symbols.items)
-    (declared_after (map symbol_of c.args.symbols.now.items) (symbols_named (map name_of c.args.names.now.items)))
+    (map symbol_of c.loop-name.declared.symbols.items) (map symbol_of c.declare_builtin.new.declared.symbols.items)
+    (declared_after (map symbol_of c.args.declared.now.symbols.items) (symbols_named (map name_of c.args.names.now.items)))
     c.deref-name-items.ensures.value c.loop-name-test.true c.name-item.is c.in_ok-declare_builtin.ensures c.loop-name.invariant

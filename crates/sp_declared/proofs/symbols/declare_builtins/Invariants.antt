@@ -6,5 +6,5 @@ use Rattle.sp_declared.proofs.symbols.declare_builtins.Given as goal
 
 abbrev pub invariant-loop-name : goal.invariant-loop-name
 invariant-loop-name l =
-    declared_after (map symbol_of l.symbols.items) (symbols_named (map name_of (drop l.name-index l.names.items)))
-    ≡ declared_after (map symbol_of l.fn.symbols.items) (symbols_named (map name_of l.names.items))
+    declared_after (map symbol_of l.declared.symbols.items) (symbols_named (map name_of (drop l.name-index l.names.items)))
+    ≡ declared_after (map symbol_of l.fn.declared.symbols.items) (symbols_named (map name_of l.names.items))
