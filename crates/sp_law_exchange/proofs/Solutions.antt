@@ -69,6 +69,7 @@ module _ (theory : Theory) (without : HaveNoNames (signature_of theory).equation
   way_renamed (chain_begun i c ts) how k is = (
     map (renamed r) is.0,
     ap (how_renamed r) is.1 ∙ ap (by_chain (v.times i) c) (map-append (renamed r) (map (valued v.terms) ts) is.0 ∙ ap (λ xs. xs ++ map (renamed r) is.0) (values ts k.1)),
+    is.2,
   )
   way_renamed (chain_done i c ts) how k is = ap (how_renamed r) is ∙ ap (by_chain (v.times i) c) (values ts k.1)
 

@@ -10,7 +10,7 @@ use Rattle.sp_spec.specs.Log.{Log, How, by_chain, learn, IsLog}
 use Rattle.sp_spec.proofs.Lists.{every_append, every_weaken, position_below}
 use Rattle.sp_law_equal.specs.Right.{HaveNoNames}
 use Rattle.sp_spec_system.specs.System.{Way, chain_begun, System, with_next}
-use Rattle.sp_spec_system.specs.Solutions.{Valuation, Solves}
+use Rattle.sp_spec_system.specs.Solutions.{Valuation, Begins, Solves}
 use Rattle.sp_spec_system.specs.Numbered.{IsNumbered}
 use Rattle.sp_spec_system.specs.Covering.{Agrees, NoneSolved}
 use Rattle.sp_spec_system.specs.Cases.{case_if}
@@ -60,6 +60,10 @@ one_more : (v w : Values) (ts : List (Term Variable)) (r : Term Variable) (u : G
     → valued w r ≡ u → map (valued w) (ts ++ r ∷ []) ++ others ≡ map (valued v) ts ++ u ∷ others
 one_more v w [] r u others h e = ap (λ (g : Ground). g ∷ others) e
 one_more v w (t ∷ ts) r u others h e = ap₂ (λ (g : Ground) (gs : List Ground). g ∷ gs) h.0 (one_more v w ts r u others h.1 e)
+
+one_more_begins : (ts : List (Term Variable)) (r : Term Variable) → Begins (ts ++ r ∷ [])
+one_more_begins [] r = tt
+one_more_begins (t ∷ ts) r = tt
 
 module _ (N : Names) (right : UnifierIsRight) (theory : Theory) (nameless : HaveNoNames (signature_of theory).equations)
     (s : System) (n : IsNumbered N s) (i : ℕ) (i_under : i < s.next) (b : Begun) (from_under : b.from < s.next)
@@ -148,7 +152,7 @@ module _ (N : Names) (right : UnifierIsRight) (theory : Theory) (nameless : Have
     here = subst (λ (p : ℕ). AtPosition log p (learn m how)) (sym (agrees.times i i_under)) learnt
 
     settled_solved : Solves theory log value settled
-    settled_solved = way_solved base i way theory log value (way_at log (value.times i) value way m how here (others, same_how)) base_solved
+    settled_solved = way_solved base i way theory log value (way_at log (value.times i) value way m how here (others, same_how, one_more_begins b.passed (valued new d.result))) base_solved
 
     link_solution : SolvedLater theory log wide value (with_link s i b d)
     link_solution =

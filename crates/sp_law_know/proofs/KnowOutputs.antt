@@ -153,7 +153,7 @@ module _ (N : Names) (theory : Theory) (s : System) (n : IsNumbered N s) (i : �
         let same_chain : by_chain q place (first ∷ others) ≡ by_chain (value.times s.next) place (valued value.terms t ∷ others) =
         ap (λ (p : ℕ). by_chain p place (first ∷ others)) (sym new_time) ∙ ap (λ (g : Ground). by_chain (value.times s.next) place (g ∷ others)) (sym e) in
         let here = subst (λ (p : ℕ). AtPosition log p (learn m (by_chain q place (first ∷ others)))) (sym (output_agrees.times i i_under)) learnt in
-        let is_way = way_at log (value.times i) value (way place t) m (by_chain q place (first ∷ others)) here (others, same_chain) in
+        let is_way = way_at log (value.times i) value (way place t) m (by_chain q place (first ∷ others)) here (others, same_chain, tt) in
         let parts = every_parts (HappensIn log value) s.events (new ∷ []) stepped_solved.events in
         let events = learnt_by_at i (way place t) s.events in
         events_solve theory log value (with_step base s.next name form) stepped_solved (events ++ new ∷ []) (found_with value s.events events (new ∷ []) (learnt_found value i (way place t) s.events))

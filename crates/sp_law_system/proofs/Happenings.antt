@@ -1,13 +1,13 @@
 -- What happens at a position does so under values that agree on its variables and times, and after replacing that changes no value; and what
 -- is put in for its variables and times is all that then stands in it.
-use Rattle.std.proofs.Common.{◌≡◌, ℕ, List, ◌++◌, map, sym, ◌∙◌, subst}
+use Rattle.std.proofs.Common.{◌≡◌, ◌∷◌, [], ℕ, List, ◌++◌, map, sym, ◌∙◌, subst}
 use Rattle.sp_spec.specs.Lists.{Every, AtPosition}
 use Rattle.sp_spec.specs.Term.{Names, Variable, Term, Ground, valued, MadeOf}
 use Rattle.sp_spec.specs.Rule.{Facts, facts_at}
 use Rattle.sp_spec.specs.Log.{Log, How, by_chain, step, send, learn}
 use Rattle.sp_spec.specs.Substitution.{Binding, bound_to, Fixes}
 use Rattle.sp_spec_system.specs.System.{Way, anyhow, public_name, own_name, constructed, chain_begun, chain_done, Happening, rule_step, sending, learning}
-use Rattle.sp_spec_system.specs.Solutions.{Valuation, IsWayOf, HappensAt}
+use Rattle.sp_spec_system.specs.Solutions.{Valuation, Begins, IsWayOf, HappensAt}
 use Rattle.sp_spec_system.specs.Numbered.{InWay, InHappening}
 use Rattle.sp_spec_system.specs.Equating.{way_changed, happening_changed}
 use Rattle.sp_spec.proofs.Lists.{every_map, every_all, every_weaken, map_each, map-map}
@@ -16,11 +16,17 @@ use Rattle.sp_law_equal.proofs.Made.{each_weaken, facts_weaken, each_valued, fac
 
 -- the values of a message and of a way are what the log has to have
 module _ (v w : Valuation) where
+  as_many_begin : (ts us : List (Term Variable)) → map (valued w.terms) us ≡ map (valued v.terms) ts → Begins ts → Begins us
+  as_many_begin (t ∷ ts) [] d b = absurd cc
+  as_many_begin (t ∷ ts) (u ∷ us) d b = tt
+  as_many_begin [] us d b = absurd b
+
   begun_kept : (i j k : ℕ) (ts us : List (Term Variable)) (how : How) → w.times j ≡ v.times i → map (valued w.terms) us ≡ map (valued v.terms) ts
       → IsWayOf v (chain_begun i k ts) how → IsWayOf w (chain_begun j k us) how
   begun_kept i j k ts us how e d h = (
     h.0,
     subst (λ (xs : List Ground). how ≡ by_chain (w.times j) k (xs ++ h.0)) (sym d) (subst (λ (q : ℕ). how ≡ by_chain q k (map (valued v.terms) ts ++ h.0)) (sym e) h.1),
+    as_many_begin ts us d h.2,
   )
 
   done_kept : (i j k : ℕ) (ts us : List (Term Variable)) (how : How) → w.times j ≡ v.times i → map (valued w.terms) us ≡ map (valued v.terms) ts

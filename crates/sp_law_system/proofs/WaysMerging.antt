@@ -99,6 +99,7 @@ module _ (v : Valuation) where
           g.0,
           subst (λ (m : ℕ). how ≡ by_chain (v.times i) m (map (valued v.terms) us ++ g.0)) (sym one.place)
               (subst (λ (q : ℕ). how ≡ by_chain q l (map (valued v.terms) us ++ g.0)) (sym one.times) g.1),
+          g.2,
         )
         at false one = h
 

@@ -20,13 +20,18 @@ pub record Valuation : Type 0 where
 abbrev pub assignment : Valuation → Assignment
 assignment v = record { terms = v.terms; times = v.times; bound_terms = λ k. constant []; bound_times = λ k. k }
 
+-- something was passed: a chain begins with what some conclusion puts out
+abbrev pub Begins : {A : Type 0} → List A → Type 0
+Begins [] = ⊥
+Begins (t ∷ ts) = Unit {0}
+
 -- how an entry learns is as the way says, under the values
 abbrev pub IsWayOf : Valuation → Way → How → Type 0
 IsWayOf v anyhow how = Unit {0}
 IsWayOf v public_name how = how ≡ log.public_name
 IsWayOf v own_name how = how ≡ log.own_name
 IsWayOf v constructed how = how ≡ log.constructed
-IsWayOf v (chain_begun i k ts) how = (others : List Ground) × (how ≡ log.by_chain (v.times i) k (map (valued v.terms) ts ++ others))
+IsWayOf v (chain_begun i k ts) how = (others : List Ground) × (how ≡ log.by_chain (v.times i) k (map (valued v.terms) ts ++ others)) × Begins ts
 IsWayOf v (chain_done i k ts) how = how ≡ log.by_chain (v.times i) k (map (valued v.terms) ts)
 
 -- the entry of the log at the event's time is what happens there
