@@ -1,25 +1,40 @@
-// The rules of a proof, with an index of them by the actions that their forms have.
+// The rules of a proof, with indexes of them by the actions and by the conclusions that their forms have.
 
 ghost use Rattle.std.specs.Prelude.{◌≡◌, List, ℕ, ◌-◌, length, OnOk, IfOk, map, option_map, slice_get, bytes_eq, if◌then◌else◌};
 ghost use Rattle.sp_term.specs.View.{name_of};
-ghost use Rattle.sp_fact.specs.View.{action_of};
+ghost use Rattle.sp_fact.specs.View.{action_of, fact_of};
 ghost use Rattle.sp_book.specs.View.{form_of, rule_forms_of};
-ghost use Rattle.sp_book.specs.Book.{places, listed, last_is, noted, noted_each, noted_forms};
+ghost use Rattle.sp_book.specs.Book.{
+  action_names,
+  fact_names,
+  shown_names,
+  given_names,
+  places,
+  givers,
+  listed,
+  last_is,
+  noted,
+  noted_each,
+  noted_forms,
+};
 
 use crate::form::RuleForms;
-use sp_fact::fact::Action;
+use sp_fact::fact::{Action, Fact};
 use sp_term::term::Name;
 use std::alloc::{AllocError, Global};
 use std::collections::BTreeMap;
 
-/// The rules of a proof; those a form of which has an action of a name are found without going over all of them.
+/// The rules of a proof; those a form of which has an action of a name, or a conclusion of a name, are found without going over all of them.
 #[derive(Drop)]
 pub struct RuleBook {
     /// the rules, in the order of the theory
     pub rules: Vec<RuleForms>,
     // the places of the rules a form of which has an action of the name, rising
     by_action: BTreeMap<String, Vec<usize>>,
+    // the places of the rules a form of which has a conclusion of the name, rising
+    by_conclusion: BTreeMap<String, Vec<usize>>,
     ghost is_exact: { (symbol : List ℕ) → listed by_action symbol ≡ places symbol 0 (map rule_forms_of rules.items) },
+    ghost is_exact_of_conclusions: { (symbol : List ℕ) → listed by_conclusion symbol ≡ givers symbol 0 (map rule_forms_of rules.items) },
 }
 
 fn ends_in(places: &Vec<usize>, place: usize) -> bool
@@ -40,18 +55,18 @@ fn note_place(places: &mut Vec<usize>, place: usize) -> Result<(), AllocError>
     Ok(())
 }
 
-// A rule may have two actions of a name: its place is listed once.
+// A rule may have two actions of a name, or two conclusions: its place is listed once.
 fn note(
     alloc: Global,
-    by_action: &mut BTreeMap<String, Vec<usize>>,
+    index: &mut BTreeMap<String, Vec<usize>>,
     symbol: &Name,
     place: usize,
 ) -> Result<(), AllocError>
-    ensures { OnOk result ((q : List ℕ) → listed by_action.new q
-        ≡ (if bytes_eq q (name_of symbol.now) then noted place (listed by_action.old q) else listed by_action.old q)) }
+    ensures { OnOk result ((q : List ℕ) → listed index.new q
+        ≡ (if bytes_eq q (name_of symbol.now) then noted place (listed index.old q) else listed index.old q)) }
 {
     let name = String::from_str(alloc, symbol.text.as_str())?;
-    let places = by_action.entry(name)?.or_default();
+    let places = index.entry(name)?.or_default();
     note_place(places, place)?;
     Ok(())
 }
@@ -62,7 +77,8 @@ fn note_actions(
     actions: &Vec<Action>,
     place: usize,
 ) -> Result<(), AllocError>
-    ensures { OnOk result ((q : List ℕ) → listed by_action.new q ≡ noted_each place q (map action_of actions.now.items) (listed by_action.old q)) }
+    ensures { OnOk result ((q : List ℕ) → listed by_action.new q
+        ≡ noted_each place q (action_names (map action_of actions.now.items)) (listed by_action.old q)) }
 {
     for action in actions {
         note(alloc, by_action, &action.symbol, place)?;
@@ -70,16 +86,47 @@ fn note_actions(
     Ok(())
 }
 
-fn note_rule(
+fn note_conclusions(
+    alloc: Global,
+    by_conclusion: &mut BTreeMap<String, Vec<usize>>,
+    conclusions: &Vec<Fact>,
+    place: usize,
+) -> Result<(), AllocError>
+    ensures { OnOk result ((q : List ℕ) → listed by_conclusion.new q
+        ≡ noted_each place q (fact_names (map fact_of conclusions.now.items)) (listed by_conclusion.old q)) }
+{
+    for conclusion in conclusions {
+        note(alloc, by_conclusion, &conclusion.symbol, place)?;
+    }
+    Ok(())
+}
+
+fn note_shown(
     alloc: Global,
     by_action: &mut BTreeMap<String, Vec<usize>>,
     rule: &RuleForms,
     place: usize,
 ) -> Result<(), AllocError>
-    ensures { OnOk result ((q : List ℕ) → listed by_action.new q ≡ noted_forms place q (map form_of rule.now.forms.items) (listed by_action.old q)) }
+    ensures { OnOk result ((q : List ℕ) → listed by_action.new q
+        ≡ noted_forms shown_names place q (map form_of rule.now.forms.items) (listed by_action.old q)) }
 {
     for form in &rule.forms {
         note_actions(alloc, by_action, &form.facts.actions, place)?;
+    }
+    Ok(())
+}
+
+fn note_given(
+    alloc: Global,
+    by_conclusion: &mut BTreeMap<String, Vec<usize>>,
+    rule: &RuleForms,
+    place: usize,
+) -> Result<(), AllocError>
+    ensures { OnOk result ((q : List ℕ) → listed by_conclusion.new q
+        ≡ noted_forms given_names place q (map form_of rule.now.forms.items) (listed by_conclusion.old q)) }
+{
+    for form in &rule.forms {
+        note_conclusions(alloc, by_conclusion, &form.facts.conclusions, place)?;
     }
     Ok(())
 }
@@ -94,10 +141,16 @@ impl RuleBook {
         ensures { IfOk result (λ b. map rule_forms_of b.rules.items ≡ map rule_forms_of rules.items) }
     {
         let mut by_action = BTreeMap::new(alloc);
+        let mut by_conclusion = BTreeMap::new(alloc);
         for (place, rule) in rules.iter().enumerate() {
-            note_rule(alloc, &mut by_action, rule, place)?;
+            note_shown(alloc, &mut by_action, rule, place)?;
+            note_given(alloc, &mut by_conclusion, rule, place)?;
         }
-        Ok(RuleBook { rules, by_action })
+        Ok(RuleBook {
+            rules,
+            by_action,
+            by_conclusion,
+        })
     }
 
     /// The places of the rules a form of which has an action of this name, rising.
@@ -105,6 +158,16 @@ impl RuleBook {
         ensures { result.now ≡ places (name_of symbol.now) 0 (map rule_forms_of self.now.rules.items) }
     {
         match self.by_action.get(symbol.text.as_str()) {
+            Some(places) => places,
+            None => &[],
+        }
+    }
+
+    /// The places of the rules a form of which has a conclusion of this name, rising: no other rule gives a fact of the name.
+    pub fn givers(&self, symbol: &Name) -> &[usize]
+        ensures { result.now ≡ givers (name_of symbol.now) 0 (map rule_forms_of self.now.rules.items) }
+    {
+        match self.by_conclusion.get(symbol.text.as_str()) {
             Some(places) => places,
             None => &[],
         }

@@ -1,4 +1,3 @@
 pub mod Sought
-pub mod Book
 pub mod Parts
 pub mod WhyNot

@@ -4,12 +4,12 @@ ghost use Rattle.std.specs.Prelude.{◌≡◌, IfOk, map, slice_get};
 ghost use Rattle.sp_fact.specs.View.{action_of};
 ghost use Rattle.sp_term.specs.View.{name_of};
 ghost use Rattle.sp_book.specs.View.{form_of, rule_forms_of};
+ghost use Rattle.sp_book.specs.Book.{by_found};
 ghost use Rattle.sp_book.specs.BookView.{book_of};
 ghost use Rattle.sp_system.specs.SystemView.{system_of};
 ghost use Rattle.sp_spec_formula.specs.Action as spec;
 ghost use Rattle.sp_moves.specs.View.{case_of};
 ghost use Rattle.sp_moves_formula.specs.Sought.{by_form, by_rule};
-ghost use Rattle.sp_moves_formula.specs.Book.{by_found};
 
 use sp_book::book::RuleBook;
 use sp_book::form::{Form, RuleForms};
@@ -81,7 +81,8 @@ fn by_place(
     action: &Action,
     place: usize,
 ) -> Result<Vec<Case>, AllocError>
-    ensures { IfOk result (λ cs. map case_of cs.items ≡ by_found (slice_get (book_of rules.now) place) (system_of system.now) time (action_of action.now)) }
+    ensures { IfOk result (λ cs. map case_of cs.items
+        ≡ by_found (λ r. by_rule r (system_of system.now) time (action_of action.now)) (slice_get (book_of rules.now) place)) }
 {
     match rules.rules.get(place) {
         Some(rule) => by_rule(alloc, system, time, action, rule),

@@ -1,9 +1,10 @@
 // The steps that may give a premise.
 
-ghost use Rattle.std.specs.Prelude.{◌≡◌, ⊤, IfOk, MatchOption, map, option_map};
+ghost use Rattle.std.specs.Prelude.{◌≡◌, ⊤, IfOk, MatchOption, map, option_map, slice_get};
 ghost use Rattle.sp_fact.specs.View.{fact_of};
 ghost use Rattle.sp_term.specs.View.{name_of};
 ghost use Rattle.sp_book.specs.View.{form_of, rule_forms_of};
+ghost use Rattle.sp_book.specs.Book.{by_found};
 ghost use Rattle.sp_book.specs.BookView.{book_of};
 ghost use Rattle.sp_system.specs.SystemView.{system_of};
 ghost use Rattle.sp_spec_graph.specs.Premise as spec;
@@ -191,6 +192,24 @@ fn by_source(
     Ok(made)
 }
 
+fn by_place(
+    alloc: Global,
+    rules: &RuleBook,
+    system: &System,
+    premise: Premise,
+    fact: &Fact,
+    place: usize,
+) -> Result<Vec<Case>, AllocError>
+    ensures { IfOk result (λ cs. map case_of cs.items
+        ≡ by_found (λ r. by_source r (system_of system.now) premise.time premise.place (fact_of fact.now)) (slice_get (book_of rules.now) place)) }
+{
+    match rules.rules.get(place) {
+        Some(rule) => by_source(alloc, system, premise, fact, rule),
+        None => Ok(Vec::new(alloc)),
+    }
+}
+
+// A rule without a conclusion of the fact's name, as most are, gives no case and isn't looked at.
 fn by_each_source(
     alloc: Global,
     rules: &RuleBook,
@@ -201,8 +220,8 @@ fn by_each_source(
     ensures { IfOk result (λ cs. map case_of cs.items ≡ spec.by_each_source (book_of rules.now) (system_of system.now) premise.time premise.place (fact_of fact.now)) }
 {
     let mut made = Vec::new(alloc);
-    for rule in &rules.rules {
-        let mut cases = by_source(alloc, system, premise, fact, rule)?;
+    for place in rules.givers(&fact.symbol) {
+        let mut cases = by_place(alloc, rules, system, premise, fact, *place)?;
         made.append(&mut cases)?;
     }
     Ok(made)
