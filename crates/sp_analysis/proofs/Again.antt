@@ -7,7 +7,7 @@ use Rattle.sp_spec.specs.Verdict.{names_learning}
 use Rattle.sp_spec.specs.Theory.{TraceKind, all_traces, exists_trace, Theory}
 use Rattle.sp_spec.specs.Written.{WrittenTheory, theory_of}
 use Rattle.sp_spec_system.specs.System.{System}
-use Rattle.sp_spec_system.specs.Move.{Context, root_system}
+use Rattle.sp_spec_system.specs.Move.{Context, Root, root_system}
 use Rattle.sp_spec_proof.specs.Tree.{Tree, IsAccepted, IsFinished, found_log, steps}
 use Rattle.sp_spec_proof.proofs.Growing.{grown_tree_accepted}
 use Rattle.sp_check.specs.Skeleton.{tree_of}
@@ -19,9 +19,10 @@ use Rattle.sp_spec_text.proofs.Items.{kept, resolved_anew}
 use Rattle.sp_spec_text.specs.Texts.{IsTextOf}
 use Rattle.sp_skel.specs.Places.{HavePlaces}
 use Rattle.sp_skel.specs.Steps.{skeleton}
-use Rattle.sp_skel.specs.Spelling.{as_written, IsReadable, AreNamed}
+use Rattle.sp_skel.specs.Spelling.{as_written, IsReadable, IsSpellable}
 use Rattle.sp_skel.proofs.Readable.{grown_readable}
 use Rattle.sp_law_reread.proofs.Named.{rules_named}
+use Rattle.sp_law_printed_log.proofs.TextNames.{texts_have_names_lem}
 use Rattle.sp_skel.proofs.Spelled.{tree_says}
 use Rattle.sp_law_reread.specs.Again.{proofs_with, with_trees, IsReadableIf}
 use Rattle.sp_spec_text.specs.Behind.{IsBehindEnd}
@@ -129,21 +130,29 @@ module _ (setting : Setting) (budget : ℕ) where
   as_many taken (q ∷ qs) (o ∷ os) h = ap suc (as_many (taken ++ taken_by q o.verdict) qs os h.1)
 
   -- the trees that were grown are readable
-  all_readable : (taken : List Taken) (qs : List Stated) (os : List Outcome) → AreNamed setting.forms → AreOutcomes setting budget taken qs os → Every (λ (o : Outcome). HavePlaces o.tree) os
-      → Every (λ (o : Outcome). IsReadable o.tree) os
+  all_readable : (taken : List Taken) (qs : List Stated) (os : List Outcome) → ((root : Root) → IsSpellable (context_of setting root)) → AreOutcomes setting budget taken qs os
+      → Every (λ (o : Outcome). HavePlaces o.tree) os → Every (λ (o : Outcome). IsReadable o.tree) os
   all_readable taken [] [] n h p = tt
   all_readable taken [] (o ∷ os) n h p = absurd h
   all_readable taken (q ∷ qs) [] n h p = absurd h
   all_readable taken (q ∷ qs) (o ∷ os) n h p =
       let grown = h.0.tree_is in
       let root = root_of setting q.attributes taken q.lemma.kind h.0.form in (
-        subst IsReadable (sym grown) (grown_readable (context_of setting root) (root_system root) budget n (subst HavePlaces grown p.0)),
+        subst IsReadable (sym grown) (grown_readable (context_of setting root) (root_system root) budget (n root) (subst HavePlaces grown p.0)),
         all_readable (taken ++ taken_by q o.verdict) qs os n h.1 p.1,
       )
 
 trees_readable : (os : List Outcome) → Every (λ (o : Outcome). IsReadable o.tree) os → Every IsReadable (trees_of os)
 trees_readable [] r = tt
 trees_readable (o ∷ os) r = (r.0, trees_readable os r.1)
+
+-- what the proofs of a text name can stand in a text
+spellable : (text : List ℕ) (theory : WrittenText) → IsTextOf text theory → (root : Root) → IsSpellable (context_of (setting_of (theory_in theory)) root)
+spellable text theory says root = record {
+  rules = rules_named text theory says;
+  symbols = texts_have_names_lem.symbols text theory says;
+  names = texts_have_names_lem.constants text theory says;
+}
 
 -- ---- what was written
 
@@ -168,7 +177,7 @@ module _ (budget : ℕ) (chosen : Option (List ℕ)) (text written : List ℕ) (
   words = summary (theory_of (theory_in a.theory)) outcomes
 
   readable : Every (λ (o : Outcome). IsReadable o.tree) outcomes
-  readable = all_readable (setting_of (theory_in a.theory)) budget [] (run_among chosen stated) outcomes (rules_named text a.theory a.poses.says) a.outcomes_are a.places
+  readable = all_readable (setting_of (theory_in a.theory)) budget [] (run_among chosen stated) outcomes (spellable text a.theory a.poses.says) a.outcomes_are a.places
 
   may_be_read : Every IsReadableIf trees
   may_be_read = placed_readable chosen stated (trees_of outcomes) (trees_readable outcomes readable)

@@ -12,5 +12,6 @@ pub mod ReadBack
 pub mod Walked
 pub mod TakenFor
 pub mod Running
+pub mod Spent
 pub mod ReadRun
 pub mod Counting

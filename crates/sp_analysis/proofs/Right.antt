@@ -43,6 +43,7 @@ use Rattle.sp_analysis.specs.Analysis.{Outcome, IsOutcome, AreOutcomes}
 use Rattle.sp_analysis.specs.Checking.{IsVerdictIn, IsVerdictOn, Judged, IsJudged, AreJudged}
 use Rattle.sp_analysis.specs.Laws.{Means, IsRejected, JudgedRightly, VerdictsAreRight}
 use Rattle.sp_analysis.proofs.Taking.{IsLemmaOf, lemmas_of, AreTakenRightly, searched, provable, suits, is_context, has_restrictions, begins, shown_of_logs, takes_rightly}
+use Rattle.sp_analysis.proofs.Spent.{all_spent}
 use Rattle.sp_analysis.proofs.StatedItems.{stated_lemmas}
 use Rattle.sp_analysis.proofs.Running.{every_run}
 
@@ -256,5 +257,6 @@ module _ {bytes : List ℕ} (text : WrittenText) (posing : Poses bytes text) whe
 pub verdicts_are_right_lem : VerdictsAreRight
 verdicts_are_right_lem = record {
   right = λ budget chosen text written outcomes a. outcomes_right a.theory a.poses budget chosen outcomes a.outcomes_are;
+  spent = λ budget chosen text written outcomes a. all_spent (setting_of (theory_in a.theory)) budget [] (run_among chosen (stated_in (resolved a.theory).items)) outcomes a.outcomes_are;
   judged_right = λ chosen text written judged c. all_judged_right c.theory c.poses chosen judged c.judged_are;
 }

@@ -20,7 +20,7 @@ use Rattle.sp_law_basic.specs.Restrictions.{IsBasicRestriction, restriction_form
 use Rattle.sp_law_basic.proofs.RestrictionForms.{every_form}
 use Rattle.sp_law_tree.specs.Laws.{IsRightForm, IsTaken, HasRestrictions, BeginsWith, IsProvable}
 use Rattle.sp_law_tree.proofs.WrittenRules.{names_stand_lem}
-use Rattle.sp_law_tree.proofs.OverLogs.{trees_show_logs_lem, shown_is_taken_lem}
+use Rattle.sp_law_tree.proofs.OverLogs.{asked_written, trees_show_logs_lem, shown_is_taken_lem}
 use Rattle.sp_law_tree.proofs.Suited.{text_suits}
 use Rattle.sp_law_inductive.specs.Cases.{cases_of}
 use Rattle.sp_law_inductive.proofs.Covering.{induction_covers, no_cases_cover}
@@ -137,6 +137,12 @@ module _ {bytes : List ℕ} (text : WrittenText) (posing : Poses bytes text) whe
     sought = refl;
   }
 
+  -- what is sought is the form of a lemma, or its negation
+  sought_right : (l : Lemma) → IsLemmaOf theory l → (g : Guarded) → checked_form l.formula ≡ Some g → (kind : TraceKind)
+      → IsRightForm signature (names_in (constants_of theory)) (sought kind g)
+  sought_right l f g e all_traces = (l.formula, f.0, f.1, g, e, inr refl)
+  sought_right l f g e exists_trace = (l.formula, f.0, f.1, g, e, inl refl)
+
   pub is_context : (l : Lemma) → IsLemmaOf theory l → (g : Guarded) → checked_form l.formula ≡ Some g → (attributes : List Attribute) (taken : List Taken) → AreTakenRightly theory taken
       → (kind : TraceKind) → IsContextOf (theory_of theory) (context_of setting (root_at attributes taken kind g))
   is_context l f g e attributes taken h kind =
@@ -145,6 +151,7 @@ module _ {bytes : List ℕ} (text : WrittenText) (posing : Poses bytes text) whe
         rules = refl;
         numbered = names_stand_lem.rules theory searched.basic;
         induction = covered kind;
+        asked = asked_written (theory_of theory) (context_of setting root) (has_restrictions root) root (sought kind g) (begins attributes taken h kind g) (sought_right l f g e kind);
         ends = searches_end_as_sought_lem.ends theory searched (context_of setting root) root refl (asked l f g e kind) (λ s. refl);
         table = record { taken = []; begun = tt; alone = tt; entries = tt };
       }

@@ -16,7 +16,7 @@ use Rattle.sp_spec.specs.Written.{WrittenTheory, theory_of}
 use Rattle.sp_spec.specs.Verdict.{names_learning, HoldsInReading, HoldsInNoReading}
 use Rattle.sp_check.specs.Rejected.{ReadIsAccepted}
 use Rattle.sp_spec_printed.specs.Verdict.{Clause, Verdict, verified, falsified, incomplete, rejected}
-use Rattle.sp_spec_proof.specs.Tree.{Tree}
+use Rattle.sp_spec_proof.specs.Tree.{Tree, steps}
 use Rattle.sp_spec_text.specs.Written.{WrittenText, proofs_in}
 use Rattle.sp_spec_text.specs.Declared.{theory_in}
 use Rattle.sp_skel.specs.Spelling.{as_written}
@@ -52,10 +52,15 @@ pub record JudgedRightly (theory : WrittenTheory) (j : Judged) : Type 0 where
   pub means : Means (theory_of theory) j.lemma.kind j.verdict j.log j.lemma
   pub accepts : (IsRejected j.verdict → ⊥) ↔ ReadIsAccepted (context_of (setting_of theory) j.root) (root_system j.root) j.proof
 
--- What is written of a lemma is so, steps of the adversary included.
+-- An incomplete analysis has made each of the moves that it may.
+pub record IsSpent (budget : ℕ) (o : Outcome) : Type 0 where
+  pub spent : o.verdict ≡ incomplete → steps o.tree ≡ budget
+
+-- What is written of a lemma is so, steps of the adversary included; and a search is given up only where its budget is spent.
 pub record VerdictsAreRight : Type 0 where
   pub right : (budget : ℕ) (chosen : Option (List ℕ)) (text written : List ℕ) (outcomes : List Outcome) (a : IsAnalysis budget chosen text written outcomes)
       → Every (λ (o : Outcome). Means (theory_of (theory_in a.theory)) o.lemma.kind o.verdict o.log o.lemma) outcomes
+  pub spent : (budget : ℕ) (chosen : Option (List ℕ)) (text written : List ℕ) (outcomes : List Outcome) → IsAnalysis budget chosen text written outcomes → Every (IsSpent budget) outcomes
   pub judged_right : (chosen : Option (List ℕ)) (text written : List ℕ) (judged : List Judged) (c : IsChecking chosen text written judged)
       → Every (JudgedRightly (theory_in c.theory)) judged
 

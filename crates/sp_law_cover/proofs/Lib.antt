@@ -1,4 +1,5 @@
 pub mod Covering
+pub mod Finish
 pub mod MovesCover
 pub mod Once
 pub mod Simplifying

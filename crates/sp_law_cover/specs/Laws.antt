@@ -4,7 +4,7 @@ use Rattle.sp_spec_system.specs.System.{System}
 use Rattle.sp_spec_system.specs.Rules.{Rules}
 use Rattle.sp_spec_proof.specs.Rows.{Row, rows, by_row, by_rows, is_contradictory}
 use Rattle.sp_spec.specs.Theory.{Theory}
-use Rattle.sp_spec_system.specs.Move.{Context, Move, unproved, solved, induction, Case, systems_in}
+use Rattle.sp_spec_system.specs.Move.{Context, Move, unproved, solved, induction, finish, Case, systems_in}
 use Rattle.sp_law_system.specs.Proofs.{IsWellMade, IsKept}
 use Rattle.sp_law_cover.specs.Admitted.{HasNoSolution, CoversBelow}
 use Rattle.sp_law_cover.specs.Contexts.{IsContextOf}
@@ -31,13 +31,14 @@ pub record RowsCover (theory : Theory) : Type 0 where
   pub kept : (context : Context) → IsContextOf theory context → (row : Row) (s t : System) → IsTurn context.rules s row t → IsWellMade context s → IsKept context s t
   pub covers : (context : Context) → IsContextOf theory context → (row : Row) (s t : System) → IsTurn context.rules s row t → IsWellMade context s → Covers theory s (t ∷ [])
 
--- So does each move with all its cases, but for an open leaf and for one with which the search ends; and induction covers only below, since it goes over to
--- what a log was before. Below, only admitted logs are spoken of.
+-- So does each move with all its cases, but for an open leaf and for one with which the search ends at a log. Two moves cover only below, where only admitted logs
+-- are spoken of: induction, since it goes over to what a log was before; and the one with which the search ends where it finds nothing, since there no log
+-- solves the system over which all that is asked for is true.
 pub record MovesCover (theory : Theory) : Type 0 where
   pub kept : (context : Context) → IsContextOf theory context → (s : System) (move : Move) (cs : List Case)
       → cases context s move ≡ Some cs → IsWellMade context s → Every (IsKept context s) (systems_in cs)
   pub covers : (context : Context) → IsContextOf theory context → (s : System) (move : Move) (cs : List Case)
-      → cases context s move ≡ Some cs → (move ≡ unproved → ⊥) → (move ≡ solved → ⊥) → (move ≡ induction → ⊥) → IsWellMade context s → Covers theory s (systems_in cs)
+      → cases context s move ≡ Some cs → (move ≡ unproved → ⊥) → (move ≡ solved → ⊥) → (move ≡ induction → ⊥) → (move ≡ finish → ⊥) → IsWellMade context s → Covers theory s (systems_in cs)
   pub covers_below : (context : Context) → IsContextOf theory context → (s : System) (move : Move) (cs : List Case)
       → cases context s move ≡ Some cs → (move ≡ unproved → ⊥) → (move ≡ solved → ⊥) → IsWellMade context s → CoversBelow theory context s (systems_in cs)
 

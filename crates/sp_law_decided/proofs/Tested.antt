@@ -39,7 +39,7 @@ compared order i j e n = ⊎_elim (λ k. absurd (n (eqb-true i j k))) (λ k. or_
 pair_is : (p : Term Variable × Term Variable) (t u : Term Variable) → (alike p.0 t && alike p.1 u) ≡ true → p ≡ (t, u)
 pair_is p t u e = let both = and_parts (alike p.0 t) (alike p.1 u) e in ap₂ (λ (a b : Term Variable). (a, b)) (alike_same p.0 t both.0) (alike_same p.1 u both.1)
 
-apart_there : (pairs : List (Term Variable × Term Variable)) (t u : Term Variable) → are_apart pairs t u ≡ true → Member (t, u) pairs ⊎ Member (u, t) pairs
+pub apart_there : (pairs : List (Term Variable × Term Variable)) (t u : Term Variable) → are_apart pairs t u ≡ true → Member (t, u) pairs ⊎ Member (u, t) pairs
 apart_there [] t u e = absurd cc
 apart_there (p ∷ pairs) t u e =
     ⊎_elim

@@ -1,6 +1,6 @@
 // Decided systems: in a closed system in which nothing is left to decide, each solution's log is the one that the system suggests, under other names.
 // Below stand the log that a system suggests (sp_spec_solved), which systems suggest one (sp_law_candidate), and what other names leave as it is
-// (sp_law_exchange); above stands whoever covers `finish`, a move that is yet to come, which ends a search in such a system.
+// (sp_law_exchange); above stand what tests such systems (sp_law_finish) and the covering of `finish` (sp_law_cover), which ends a search in one.
 // Carried here: the suggested log is a learning log over which the same formulas are true, so that no solution is what is sought where it isn't; a test
 // tells such systems; two premises are shown to be needed. The functions do nothing when they run: the one clause of each is a law.
 #![tactic(auto)]

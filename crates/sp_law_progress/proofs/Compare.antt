@@ -70,7 +70,7 @@ is_asked s i j cs e =
 
 module _ (s : System) (i j : ℕ) (cs : List Case) (e : compare_cases s i j ≡ Some cs) where
   -- its cases keep the numbers
-  compare_numbered : {N : Names} → IsNumbered N s → Every (Later N s.next) (systems_in cs)
+  pub compare_numbered : {N : Names} → IsNumbered N s → Every (Later N s.next) (systems_in cs)
   compare_numbered {N} n =
       let a = is_asked s i j cs e in
       let iu = time_has (TimeUnder s.next) s i a.first (times_under s n) in
@@ -103,8 +103,10 @@ module _ (s : System) (i j : ℕ) (cs : List Case) (e : compare_cases s i j ≡ 
             in_order log v h (time_has (λ (k : ℕ). v.times k < length log) s i a.first placed) (time_has (λ (k : ℕ). v.times k < length log) s j a.second placed) none
             (cases_order (v.times i) (v.times j))
 
--- It keeps what systems of a proof fulfil: no two events of a case have one time.
+-- No two events of a case have one time.
+pub compare_once : (s : System) (i j : ℕ) (cs : List Case) → compare_cases s i j ≡ Some cs → HappenOnce s.events → Every IsOnce (systems_in cs)
+compare_once s i j cs e once = subst (λ (x : List Case). Every IsOnce (systems_in x)) (sym (is_asked s i j cs e).cases) (once, (once, (once, tt)))
+
+-- It keeps what systems of a proof fulfil.
 pub compare_kept : (context : Context) (s : System) (i j : ℕ) (cs : List Case) → compare_cases s i j ≡ Some cs → IsWellMade context s → Every (IsKept context s) (systems_in cs)
-compare_kept context s i j cs e made =
-    each_kept context s (systems_in cs) (compare_numbered s i j cs e made.numbered)
-    (subst (λ (x : List Case). Every IsOnce (systems_in x)) (sym (is_asked s i j cs e).cases) (made.once, (made.once, (made.once, tt))))
+compare_kept context s i j cs e made = each_kept context s (systems_in cs) (compare_numbered s i j cs e made.numbered) (compare_once s i j cs e made.once)

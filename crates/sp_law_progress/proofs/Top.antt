@@ -13,7 +13,7 @@ use Rattle.sp_spec.proofs.Options.{if_some, some_same}
 use Rattle.sp_spec_system.specs.System.{System, with_next}
 use Rattle.sp_spec_system.specs.Equating.{system_changed}
 use Rattle.sp_spec_system.specs.Solutions.{Valuation, Solves}
-use Rattle.sp_spec_system.specs.Numbered.{names_in, HappenOnce, IsNumbered}
+use Rattle.sp_spec_system.specs.Numbered.{HappenOnce, IsNumbered}
 use Rattle.sp_spec_system.specs.Covering.{Agrees, NoneSolved, Covers}
 use Rattle.sp_spec_system.specs.Head.{new_variables}
 use Rattle.sp_spec_system.specs.Move.{Case, Context, systems_in}
@@ -92,14 +92,21 @@ module _ (s : System) (k : ℕ) where
     by_symbols_numbered n fs,
   )
 
--- The move keeps what systems of a proof fulfil: its cases keep the numbers, and no two events of a case have one time.
+-- Its cases keep the numbers.
+pub top_numbered : {N : Names} (symbols : List Symbol) (s : System) (k : ℕ) (cs : List Case) → top_cases symbols s k ≡ Some cs → IsNumbered N s → Every (Later N s.next) (systems_in cs)
+top_numbered {N} symbols s k cs e n =
+    let by_sort : (sort : Sort) → Later N s.next (by_name s k sort) = λ sort. term_numbered s (of_number Msg k) (var (of_number sort s.next)) 1 n (omega arith) in
+    subst (λ (x : List Case). Every (Later N s.next) (systems_in x)) (sym (is_asked symbols s k cs e).1) (by_sort Pub, (by_sort Fresh, by_symbols_numbered s k n symbols))
+
+-- No two events of a case have one time.
+pub top_once : (symbols : List Symbol) (s : System) (k : ℕ) (cs : List Case) → top_cases symbols s k ≡ Some cs → HappenOnce s.events → Every IsOnce (systems_in cs)
+top_once symbols s k cs e once =
+    let by_sort : (sort : Sort) → IsOnce (by_name s k sort) = λ sort. term_once s (of_number Msg k) (var (of_number sort s.next)) 1 once in
+    subst (λ (x : List Case). Every IsOnce (systems_in x)) (sym (is_asked symbols s k cs e).1) (by_sort Pub, (by_sort Fresh, by_symbols_once s k once symbols))
+
+-- The move keeps what systems of a proof fulfil.
 pub top_kept : (context : Context) (symbols : List Symbol) (s : System) (k : ℕ) (cs : List Case) → top_cases symbols s k ≡ Some cs → IsWellMade context s → Every (IsKept context s) (systems_in cs)
-top_kept context symbols s k cs e made =
-    let x = of_number Msg k in
-    let numbered : (sort : Sort) → Later (names_in context.public_names) s.next (by_name s k sort) = λ sort. term_numbered s x (var (of_number sort s.next)) 1 made.numbered (omega arith) in
-    let once : (sort : Sort) → IsOnce (by_name s k sort) = λ sort. term_once s x (var (of_number sort s.next)) 1 made.once in
-    subst (λ (x : List Case). Every (IsKept context s) (systems_in x)) (sym (is_asked symbols s k cs e).1)
-    (each_kept context s (systems_in (told symbols s k)) (numbered Pub, (numbered Fresh, by_symbols_numbered s k made.numbered symbols)) (once Pub, (once Fresh, by_symbols_once s k made.once symbols)))
+top_kept context symbols s k cs e made = each_kept context s (systems_in cs) (top_numbered symbols s k cs e made.numbered) (top_once symbols s k cs e made.once)
 
 module _ {N : Names} (theory : Theory) (s : System) (n : IsNumbered N s) (k : ℕ) (under : k < s.next) (log : Log) (v : Valuation) (h : Solves theory log v s) where
   abbrev x : Variable

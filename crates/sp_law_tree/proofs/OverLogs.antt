@@ -1,5 +1,5 @@
 -- What finished trees show of logs.
-use Rattle.std.proofs.Common.{◌≡◌, [], ◌∷◌, ◌++◌, inl, inr, Option, Some, refl, sym, subst}
+use Rattle.std.proofs.Common.{◌≡◌, [], ◌∷◌, ◌++◌, inl, inr, Option, Some, refl, sym, ◌∙◌, subst}
 use Rattle.sp_spec.specs.Lists.{Every}
 use Rattle.sp_spec.specs.Signature.{Signature}
 use Rattle.sp_spec.specs.Term.{Names}
@@ -10,6 +10,7 @@ use Rattle.sp_spec.specs.Truth.{IsTrueOver}
 use Rattle.sp_spec.specs.Verdict.{MeetsRestrictions}
 use Rattle.sp_spec.specs.Log.{Log, IsLog, log_trace}
 use Rattle.sp_spec.proofs.Lists.{every_append, every_both, every_weaken}
+use Rattle.sp_spec.proofs.Options.{some_same}
 use Rattle.sp_law_truth.proofs.Stable.{stable_truth}
 use Rattle.sp_law_guard.specs.GuardedForm.{negate}
 use Rattle.sp_law_guard.specs.CheckedForm.{checked_form}
@@ -18,9 +19,9 @@ use Rattle.sp_law_guard.proofs.Kept.{form_kept}
 use Rattle.sp_law_guard.proofs.Turned.{turned}
 use Rattle.sp_spec_system.specs.Numbered.{names_in}
 use Rattle.sp_spec_system.specs.Solutions.{assignment}
-use Rattle.sp_spec_system.specs.Move.{Root, Context, root_system, formulas_from}
+use Rattle.sp_spec_system.specs.Move.{Root, Context, root_system, asked_formulas, formulas_from}
 use Rattle.sp_law_cover.specs.Admitted.{start, Over, Admits}
-use Rattle.sp_law_cover.specs.Contexts.{IsContextOf}
+use Rattle.sp_law_cover.specs.Contexts.{IsWrittenForm, IsContextOf}
 use Rattle.sp_law_system.specs.Rules.{SuitsProofs}
 use Rattle.sp_law_cover.proofs.Covering.{moves_are_covered}
 use Rattle.sp_spec_proof.specs.Tree.{Tree, IsAccepted, IsFinished}
@@ -61,6 +62,12 @@ module _ (theory : Theory) (context : Context) (has : HasRestrictions theory con
       subst (λ (o : Option Root). Every (Over theory log) (formulas_from o)) (sym begins.is_root)
       (every_append (Over theory log) r.restrictions (r.taken ++ r.sought ∷ []) (subst (Every (Over theory log)) (sym begins.restrictions) restrictions)
       (every_append (Over theory log) r.taken (r.sought ∷ []) (every_weaken _ _ (λ f is_taken. is_taken log is_log meets) r.taken begins.taken) (subst (Over theory log) (sym begins.sought) holds, tt)))
+
+  -- what is asked of a log is of written formulas
+  pub asked_written : (r : Root) (h : Guarded) → BeginsWith theory context r h → Right h → (q : Root) → context.root ≡ Some q → Every (IsWrittenForm context.public_names) (asked_formulas q)
+  asked_written r h begins right q is =
+      subst (λ (x : Root). Every (IsWrittenForm context.public_names) (asked_formulas x)) (some_same q r (sym is ∙ begins.is_root))
+      (roots_are_solved_lem.written theory context r (root_right r h begins right))
 
   -- a formula from which a finished tree grows is true over no log that meets the restrictions
   in_no_log : SuitsProofs theory → IsContextOf theory context → (r : Root) (h : Guarded) → BeginsWith theory context r h → Right h

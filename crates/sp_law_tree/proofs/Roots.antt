@@ -1,11 +1,12 @@
--- The system in which a proof begins is well made, and solved by each admitted log.
-use Rattle.std.proofs.Common.{◌<◌, zero, List, [], ◌∷◌, Option, sym, subst, ⊎_elim}
+-- The system in which a proof begins is well made, and solved by each admitted log; what is asked of a log is of written formulas.
+use Rattle.std.proofs.Common.{◌<◌, ℕ, zero, List, [], ◌∷◌, Option, inl, refl, sym, subst, ⊎_elim}
 use Rattle.sp_spec.specs.Lists.{Every}
 use Rattle.sp_spec.specs.Term.{Names}
 use Rattle.sp_spec.specs.Signature.{Signature}
 use Rattle.sp_spec.specs.Theory.{Theory, signature_of}
 use Rattle.sp_spec.specs.Guarded.{Guarded}
 use Rattle.sp_spec.specs.Log.{Log}
+use Rattle.sp_spec.proofs.Lists.{every_weaken}
 use Rattle.sp_law_equal.specs.NormalForms.{HaveNormalForms}
 use Rattle.sp_law_guard.proofs.Checked.{form_checked}
 use Rattle.sp_law_guard.proofs.Throughout.{Throughout, negate_throughout}
@@ -15,6 +16,8 @@ use Rattle.sp_spec_system.specs.Solutions.{FormulaHolds, Solves}
 use Rattle.sp_spec_system.specs.Numbered.{names_in, InFormula, IsNumbered}
 use Rattle.sp_spec_system.specs.Move.{Root, root_formulas, formulas_from}
 use Rattle.sp_law_cover.specs.Admitted.{start, Over}
+use Rattle.sp_law_cover.specs.Contexts.{IsWrittenForm}
+use Rattle.sp_law_cover.proofs.Finish.{asked_of}
 use Rattle.sp_law_tree.specs.Laws.{IsRightForm, RootsAreSolved}
 use Rattle.sp_law_tree.proofs.Starts.{start_sorts, start_normal}
 use Rattle.sp_law_tree.proofs.Forms.{IsRight, right_negation, right_numbered, right_solved}
@@ -40,6 +43,12 @@ module _ (signature : Signature) (N : Names) where
   alone_numbered : (fs : List Guarded) → Every (IsRightForm signature N) fs → IsNumbered N (formulas_alone fs)
   alone_numbered fs h = record { events = tt; formulas = all_numbered fs h; spent = tt; unequal = tt; links = tt; order = tt; last = tt }
 
+-- and is of a written one
+right_written : (signature : Signature) (constants : List (List ℕ)) (h : Guarded) → IsRightForm signature (names_in constants) h → IsWrittenForm constants h
+right_written signature constants h p =
+    let numbered = (all_numbered signature (names_in constants) (p.3 ∷ []) ((p.0, p.1, p.2, p.3, p.4, inl refl), tt)).0 in
+    (p.0, (p.3, (form_checked p.0 p.3 p.4).0, zero, numbered), p.5)
+
 module _ (theory : Theory) (good : HaveNormalForms (signature_of theory).equations) (N : Names) (log : Log) where
   all_hold : (fs : List Guarded) → Every (IsRightForm (signature_of theory) N) fs → Every (Over theory log) fs → Every (FormulaHolds theory log start) fs
   all_hold [] h k = tt
@@ -64,4 +73,7 @@ roots_are_solved_lem = record {
   well_made = λ theory context r h. record { numbered = alone_numbered (signature_of theory) (names_in context.public_names) (root_formulas r) h; once = tt };
   solved = λ theory good context r is h log admitted.
       alone_solved theory good (names_in context.public_names) log (root_formulas r) h (subst (λ (o : Option Root). Every (Over theory log) (formulas_from o)) is admitted);
+  written = λ theory context r h.
+      asked_of (IsWrittenForm context.public_names) r
+      (every_weaken (IsRightForm (signature_of theory) (names_in context.public_names)) (IsWrittenForm context.public_names) (right_written (signature_of theory) context.public_names) (root_formulas r) h);
 }

@@ -8,8 +8,8 @@ use Rattle.sp_spec_system.specs.System.{System}
 use Rattle.sp_spec_system.specs.Numbered.{names_in}
 use Rattle.sp_law_system.specs.Proofs.{IsWellMade}
 use Rattle.sp_law_cover.specs.Admitted.{start, Over, Admits, HasNoAdmitted}
-use Rattle.sp_law_cover.specs.Contexts.{IsContextOf}
-use Rattle.sp_spec_system.specs.Move.{Root, root_formulas, root_system, Context, end_log}
+use Rattle.sp_law_cover.specs.Contexts.{IsWrittenForm, IsContextOf}
+use Rattle.sp_spec_system.specs.Move.{Root, root_formulas, asked_formulas, root_system, Context, end_log}
 use Rattle.sp_spec_system.specs.Solutions.{Solves}
 use Rattle.sp_spec_proof.specs.Tree.{Tree, IsAccepted, IsFinished, found_log, steps}
 use Rattle.sp_spec.specs.Log.{Log, IsLog, log_trace}
@@ -56,11 +56,13 @@ IsRightForm signature N h =
 abbrev pub IsRightRoot : Theory → Context → Root → Type 0
 IsRightRoot theory context r = Every (IsRightForm (signature_of theory) (names_in context.public_names)) (root_formulas r)
 
--- The system in which a proof begins is well made; and an admitted log solves it, under the values with which a proof begins.
+-- The system in which a proof begins is well made; an admitted log solves it, under the values with which a proof begins; and what is asked of a log is of
+-- written formulas, as a context's search owes.
 pub record RootsAreSolved : Type 0 where
   pub well_made : (theory : Theory) (context : Context) (r : Root) → IsRightRoot theory context r → IsWellMade context (root_system r)
   pub solved : (theory : Theory) → HaveNormalForms (signature_of theory).equations → (context : Context) (r : Root) → context.root ≡ Some r → IsRightRoot theory context r
       → (log : Log) → Admits theory context log → Solves theory log start (root_system r)
+  pub written : (theory : Theory) (context : Context) (r : Root) → IsRightRoot theory context r → Every (IsWrittenForm context.public_names) (asked_formulas r)
 
 -- A formula that is taken: it is true over each log of the theory that meets the restrictions.
 abbrev pub IsTaken : Theory → Guarded → Type 0

@@ -1,3 +1,4 @@
+pub mod Exact
 pub mod NewVariables
 pub mod Parted
 pub mod Standing

@@ -15,8 +15,8 @@ use sp_moves::times::has_time;
 use sp_system::system::System;
 use std::alloc::{AllocError, Global};
 
-// Two times of the system, the lower number first, of which neither is before the other; where nothing happens no time is compared.
-fn are_comparable(system: &System, first: u128, second: u128) -> bool
+/// Whether these are two times of the system, the lower number first, of which neither is before the other; where nothing happens no time is compared.
+pub fn are_comparable(system: &System, first: u128, second: u128) -> bool
     ensures { result ≡ spec.are_comparable (system_of system.now) first second }
 {
     !system.events.is_empty()

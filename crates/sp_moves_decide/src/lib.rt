@@ -5,6 +5,7 @@
 // Carried here: the promise that no case of these moves is left out.
 #![tactic(auto)]
 
+pub mod apply;
 pub mod compare;
 pub mod more;
 mod occurring;

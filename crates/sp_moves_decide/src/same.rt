@@ -26,7 +26,12 @@ use sp_system::system::{System, UnequalPair};
 use sp_term::term::{Name, Sort, Term, Variable, same};
 use std::alloc::{AllocError, Global};
 
-fn side_term(side: &Side) -> Result<Term, AllocError>
+/// The term that the side is.
+///
+/// # Errors
+///
+/// `AllocError` where memory is wanting.
+pub fn side_term(side: &Side) -> Result<Term, AllocError>
     ensures { IfOk result (λ t. view t ≡ spec.side_term (side_of side.now)) }
 {
     match side {
@@ -45,8 +50,8 @@ fn side_term(side: &Side) -> Result<Term, AllocError>
     }
 }
 
-// Of one sort, a variable first, and of two variables that of the lower number.
-fn are_in_order(one: &Side, other: &Side) -> bool
+/// Whether the sides are of one sort, a variable first, and of two variables that of the lower number.
+pub fn are_in_order(one: &Side, other: &Side) -> bool
     ensures { result ≡ spec.are_in_order (side_of one.now) (side_of other.now) }
 {
     match (one, other) {
@@ -82,7 +87,8 @@ fn has_name(constants: &Vec<Name>, system: &System, name: &Name) -> bool
     is_found(constants, system, name)
 }
 
-fn stands_there(constants: &Vec<Name>, system: &System, side: &Side) -> bool
+/// Whether the side stands in the system, if it is a variable; if it is a public name, whether it stands there or is one of these.
+pub fn stands_there(constants: &Vec<Name>, system: &System, side: &Side) -> bool
     ensures { result ≡ spec.stands_there (map name_of constants.now.items) (system_of system.now) (side_of side.now) }
 {
     match side {
@@ -92,8 +98,8 @@ fn stands_there(constants: &Vec<Name>, system: &System, side: &Side) -> bool
     }
 }
 
-// They are an unequal pair, in either order.
-fn are_apart(pairs: &Vec<UnequalPair>, left: &Term, right: &Term) -> bool
+/// Whether the terms are an unequal pair, in either order.
+pub fn are_apart(pairs: &Vec<UnequalPair>, left: &Term, right: &Term) -> bool
     ensures { result ≡ spec.are_apart (map pair_view pairs.now.items) (view left.now) (view right.now) }
 {
     for pair in pairs {

@@ -20,7 +20,7 @@ use std::alloc::{AllocError, Global};
 use std::rc::Rc;
 
 /// Whether the variable stands anywhere in the system.
-pub(crate) fn has_variable(system: &System, sort: Sort, number: u128) -> bool
+pub fn has_variable(system: &System, sort: Sort, number: u128) -> bool
     ensures { result ≡ spec.has_variable (system_of system.now) (spec.of_number (sort_of sort) number) }
 {
     system_has(Sought::Variable(Variable { sort, number }), system)

@@ -2,13 +2,11 @@ mod BlockLaws
 mod BlockParts
 mod BlockTurns
 pub mod Budget
-pub mod Choosing
 pub mod Ends
 pub mod Finished
 pub mod Gathering
 pub mod GrownNodes
 pub mod InOrder
-pub mod LearningMoves
 pub mod NextPlace
 pub mod Replaced
 pub mod Told

@@ -3,7 +3,7 @@ use Rattle.std.specs.Prelude.{List, map, option_map, string_bytes}
 use Rattle.sp_system.specs.SystemView.{system_of}
 use Rattle.sp_learn.specs.View.{log_of}
 use Rattle.sp_step.specs.View.{move_of}
-use Rattle.sp_search.specs.Choosing.{ranked_of}
+use Rattle.sp_step.specs.Choosing.{ranked_of}
 use Rattle.sp_search.specs.Kinds.{Kind, open_leaf, end_at, choice}
 use Rattle.sp_search.specs.declared.node.Node.{Node}
 use Rattle.sp_search.specs.declared.node.OpenLeaf.{OpenLeaf}

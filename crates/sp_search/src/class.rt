@@ -2,12 +2,12 @@
 
 ghost use Rattle.std.specs.Prelude.{◌≡◌, ◌+◌, IfOk, option_map};
 ghost use Rattle.sp_spec_proof.specs.Choice as choice;
-ghost use Rattle.sp_search.specs.Choosing.{ranked_of};
+ghost use Rattle.sp_step.specs.Choosing.{ranked_of};
 ghost use Rattle.sp_search.specs.NodeView.{node_at, nodes_at};
 ghost use Rattle.sp_search.specs.Turning as turning;
 
-use crate::choose::Ranked;
 use crate::node::Node;
+use sp_step::choose::Ranked;
 use std::alloc::AllocError;
 
 // The rank of a leaf's move and its depth; none where no move is chosen. The sum is wider than the two, so that it always fits.

@@ -18,11 +18,11 @@ ghost use Rattle.sp_search.specs.View.{kept_of, tree_of};
 ghost use Rattle.sp_spec_system.specs.Move.{end_log};
 
 use crate::blocks::Blocks;
-use crate::choose::choice;
 use crate::class::deeper;
 use crate::node::{Node, OpenLeaf};
 use crate::parts::{all_nodes, block_of, ends, next_spot, taken, with_nodes};
 use crate::tree::Tree;
+use sp_step::choose::choice;
 use sp_step::context::Context;
 use sp_step::moves::{Case, Move, cases};
 use sp_system::system::System;

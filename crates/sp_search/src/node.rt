@@ -1,7 +1,7 @@
 // The nodes of proof trees: open leaves with their systems, logs with which the search ends, and moves.
 
-use crate::choose::Ranked;
 use sp_learn::log::Log;
+use sp_step::choose::Ranked;
 use sp_step::moves::Move;
 use sp_system::system::System;
 

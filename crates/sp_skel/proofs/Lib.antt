@@ -3,6 +3,7 @@ pub mod CaseNames
 pub mod Cut
 pub mod Decimals
 pub mod Goals
+pub mod GrownSides
 pub mod InOrder
 pub mod LearningNames
 pub mod Levels
@@ -12,6 +13,7 @@ pub mod Nodes
 pub mod Unbroken
 pub mod Pieces
 pub mod Constants
+pub mod DecidingNames
 pub mod Sides
 pub mod ReadBack
 pub mod Readable

@@ -26,10 +26,12 @@ use Rattle.sp_spec_proof.proofs.Growing.{grown_tree_accepted}
 use Rattle.sp_moves_formula.specs.Sought.{sought}
 use Rattle.sp_moves_formula.proofs.ByAction.{sought_cases, solves}
 use Rattle.sp_spec_text.specs.Names.{IsName, IsWord}
-use Rattle.sp_skel.specs.Places.{HasSides, IsSaid, HavePlaces, AllHavePlaces}
-use Rattle.sp_skel.specs.Spelling.{IsReadable, AreReadable, MayHaveCases, AreNamed}
+use Rattle.sp_skel.specs.Places.{IsSaid, HavePlaces, AllHavePlaces, HaveSides, AllHaveSides}
+use Rattle.sp_skel.specs.Spelling.{IsReadable, AreReadable, MayHaveCases, AreNamed, IsSpellable}
 use Rattle.sp_skel.proofs.CaseNames.{at_named, event_named, part_named, empty_named, non_empty_named}
 use Rattle.sp_skel.proofs.NamedCases.{CasesNamed, named_append, if_named, rule_named}
+use Rattle.sp_skel.proofs.DecidingNames.{compare_named, top_named, sides_named, more_named, finish_named}
+use Rattle.sp_skel.proofs.GrownSides.{grown_sides}
 use Rattle.sp_skel.proofs.LearningNames.{adversary_named, made_cases_named, own_cases_named, outputs_named, done_cases_named, destructions_named}
 use Rattle.sp_spec_system.specs.Rules.{Rules}
 use Rattle.sp_spec_forms.specs.Forms.{RuleForms}
@@ -124,7 +126,7 @@ chain_fine ds s i (Some b) cs e =
 inductive_named : (i : InductionCases) → CasesNamed (induction_cases i)
 inductive_named i = (empty_named.0, empty_named.1, (non_empty_named.0, non_empty_named.1, tt))
 
-raw_fine : (context : Context) (s : System) (move : Move) (cs : List Case) → AreNamed context.rules.forms → raw_cases context s move ≡ Some cs → Fine cs
+raw_fine : (context : Context) (s : System) (move : Move) (cs : List Case) → IsSpellable context → raw_cases context s move ≡ Some cs → Fine cs
 raw_fine context s simplify cs h e = at (has_place context.rules s) e
   where
     at : (b : Bool) → (if b then Some (record { name = []; system = s } ∷ []) else None) ≡ Some cs → Fine cs
@@ -142,17 +144,17 @@ raw_fine context s solved cs h e = at (is_some (end_log context s)) e
     at true e = fine_nothing cs (let f : [] ≡ cs = cc in f)
     at false e = absurd (let none : ⊥ = cc in none)
 raw_fine context s (or k) cs h e = or_fine s (disjunction_at k s.formulas) cs e
-raw_fine context s (premise i p) cs h e = premise_fine context.rules.forms s i p (open_premise s i p) cs h e
-raw_fine context s (know i) cs h e = know_fine context.rules s i (wanted_at context.rules.signature.symbols s i) cs h e
+raw_fine context s (premise i p) cs h e = premise_fine context.rules.forms s i p (open_premise s i p) cs h.rules e
+raw_fine context s (know i) cs h e = know_fine context.rules s i (wanted_at context.rules.signature.symbols s i) cs h.rules e
 raw_fine context s (chain i) cs h e = chain_fine (destructions context.rules.signature) s i (begun_at s i) cs e
-raw_fine context s (action k) cs h e = solving_fine context.rules.forms s (slice_get s.formulas k) cs h e
+raw_fine context s (action k) cs h e = solving_fine context.rules.forms s (slice_get s.formulas k) cs h.rules e
 raw_fine context s induction cs h e = let at = only_at_root context.root s cs e in inl (subst CasesNamed (sym at.cases) (inductive_named at.parts))
 raw_fine context s (source i) cs h e = absurd (let none : ⊥ = cc in none)
-raw_fine context s (compare i j) cs h e = absurd (let none : ⊥ = cc in none)
-raw_fine context s (top k) cs h e = absurd (let none : ⊥ = cc in none)
-raw_fine context s (same a b) cs h e = absurd (let none : ⊥ = cc in none)
-raw_fine context s more_events cs h e = absurd (let none : ⊥ = cc in none)
-raw_fine context s finish cs h e = absurd (let none : ⊥ = cc in none)
+raw_fine context s (compare i j) cs h e = inl (compare_named s i j cs e)
+raw_fine context s (top k) cs h e = inl (top_named context.rules.signature.symbols s k cs h.symbols e)
+raw_fine context s (same a b) cs h e = inl (sides_named context.public_names s a b cs e)
+raw_fine context s more_events cs h e = inl (more_named context.rules.forms s cs h.rules e)
+raw_fine context s finish cs h e = inl (finish_named context s cs e)
 
 simple_named : (rules : Rules) (cs : List Case) → CasesNamed cs → CasesNamed (map (simple_case rules) cs)
 simple_named rules [] h = tt
@@ -162,7 +164,7 @@ simple_fine : (rules : Rules) (raw cs : List Case) → Fine raw → map (simple_
 simple_fine rules raw cs (inl h) e = inl (subst CasesNamed e (simple_named rules raw h))
 simple_fine rules raw cs (inr h) e = inr (record { system = (simple_case rules (record { name = []; system = h.system })).system; is = sym e ∙ ap (map (simple_case rules)) h.is })
 
-move_fine : (context : Context) (s : System) (move : Move) (cs : List Case) → AreNamed context.rules.forms → cases context s move ≡ Some cs → Fine cs
+move_fine : (context : Context) (s : System) (move : Move) (cs : List Case) → IsSpellable context → cases context s move ≡ Some cs → Fine cs
 move_fine context s move cs h e = at (raw_cases context s move) refl e
   where
     at : (o : Option (List Case)) → raw_cases context s move ≡ o → option_map (map (simple_case context.rules)) o ≡ Some cs → Fine cs
@@ -211,27 +213,24 @@ ends_or_may : (m : Move) → (m ≡ solved) ⊎ MayHaveCases m
 ends_or_may solved = inl refl
 ends_or_may m = inr refl
 
--- a move of sides has no cases as yet
-has_sides : (context : Context) (s : System) (m : Move) (bs : Branches) → AreAccepted context (cases context s m) bs → HasSides m
-has_sides context s (same a b) bs h = absurd h
-has_sides context s m bs h = tt
-
-either_fine : (context : Context) (s : System) (m : Move) (bs : Branches) → (m ≡ solved) ⊎ MayHaveCases m → AreNamed context.rules.forms → IsSaid m → AreAccepted context (cases context s m) bs → TreesReadable bs
+either_fine : (context : Context) (s : System) (m : Move) (bs : Branches) → (m ≡ solved) ⊎ MayHaveCases m → IsSpellable context → IsSaid m → AreAccepted context (cases context s m) bs → TreesReadable bs
     → IsReadable (node m bs)
 either_fine context s m bs (inl e) n p h r =
     subst (λ (x : Move). IsReadable (node x bs)) (sym e) (end_fine context (end_log context s) bs (subst (λ (x : Move). AreAccepted context (cases context s x) bs) e h))
 either_fine context s m bs (inr may) n p h r = node_fine context m bs (cases context s m) (λ cs e. move_fine context s m cs n e) p may h r
 
 mutual
-  pub tree_readable : (context : Context) (s : System) (t : Tree) → AreNamed context.rules.forms → HavePlaces t → IsAccepted context s t → IsReadable t
-  tree_readable context s (node m bs) n p h = either_fine context s m bs (ends_or_may m) n (p.0, has_sides context s m bs h) h (trees_readable context (cases context s m) bs n p.1 h)
+  pub tree_readable : (context : Context) (s : System) (t : Tree) → IsSpellable context → HavePlaces t → HaveSides t → IsAccepted context s t → IsReadable t
+  tree_readable context s (node m bs) n p q h = either_fine context s m bs (ends_or_may m) n (p.0, q.0) h (trees_readable context (cases context s m) bs n p.1 q.1 h)
 
-  trees_readable : (context : Context) (o : Option (List Case)) (bs : Branches) → AreNamed context.rules.forms → AllHavePlaces bs → AreAccepted context o bs → TreesReadable bs
-  trees_readable context None bs n p h = absurd h
-  trees_readable context (Some []) no_branch n p h = tt
-  trees_readable context (Some []) (branch name t bs) n p h = absurd h
-  trees_readable context (Some (c ∷ cs)) no_branch n p h = absurd h
-  trees_readable context (Some (c ∷ cs)) (branch name t bs) n p h = (tree_readable context c.system t n p.0 h.1, trees_readable context (Some cs) bs n p.1 h.2)
+  trees_readable : (context : Context) (o : Option (List Case)) (bs : Branches) → IsSpellable context → AllHavePlaces bs → AllHaveSides bs → AreAccepted context o bs → TreesReadable bs
+  trees_readable context None bs n p q h = absurd h
+  trees_readable context (Some []) no_branch n p q h = tt
+  trees_readable context (Some []) (branch name t bs) n p q h = absurd h
+  trees_readable context (Some (c ∷ cs)) no_branch n p q h = absurd h
+  trees_readable context (Some (c ∷ cs)) (branch name t bs) n p q h =
+      (tree_readable context c.system t n p.0 q.0 h.1, trees_readable context (Some cs) bs n p.1 q.1 h.2)
 
-pub grown_readable : (context : Context) (s : System) (budget : ℕ) → AreNamed context.rules.forms → HavePlaces (grown_tree context s budget) → IsReadable (grown_tree context s budget)
-grown_readable context s budget n p = tree_readable context s (grown_tree context s budget) n p (grown_tree_accepted context s budget)
+pub grown_readable : (context : Context) (s : System) (budget : ℕ) → IsSpellable context → HavePlaces (grown_tree context s budget) → IsReadable (grown_tree context s budget)
+grown_readable context s budget n p =
+    tree_readable context s (grown_tree context s budget) n p (grown_sides context n.names s budget) (grown_tree_accepted context s budget)

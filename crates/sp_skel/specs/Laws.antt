@@ -12,8 +12,8 @@ use Rattle.sp_check.specs.Skeleton.{tree_of}
 use Rattle.sp_spec_text.specs.Written.{WrittenProof}
 use Rattle.sp_spec_text.specs.Proofs.{SpellsProof}
 use Rattle.sp_skel.specs.Steps.{skeleton}
-use Rattle.sp_skel.specs.Places.{HavePlaces}
-use Rattle.sp_skel.specs.Spelling.{as_written, IsReadable, AreNamed}
+use Rattle.sp_skel.specs.Places.{HavePlaces, HaveSides}
+use Rattle.sp_skel.specs.Spelling.{as_written, IsReadable, IsSpellable}
 
 -- the move is written as a goal of this word, and this stands behind it
 pub record IsGoal (w : List ℕ) (said : List Said) (move : Move) : Type 0 where
@@ -41,7 +41,8 @@ pub record TreesAreReadBack : Type 0 where
   pub back : (depth size : ℕ) (t : Tree) (rest : List ℕ) (tokens : List Token) → IsReadable t → length (tree_text depth t ++ rest) ≤ size → AreTokens size rest tokens
       → ReadsBack size (tree_text depth t ++ rest) t (lexemes tokens)
 
--- Where the rules have names and each action has a place, the cases of accepted trees have names, or are alone, and so with grown trees.
+-- Where what trees name can stand in a text, the cases of an accepted tree whose numbers and sides can stand there too have names, or are alone. The sides of grown
+-- trees can stand there.
 pub record AcceptedTreesAreReadable : Type 0 where
-  pub accepted : (context : Context) (s : System) (t : Tree) → AreNamed context.rules.forms → HavePlaces t → IsAccepted context s t → IsReadable t
-  pub grown : (context : Context) (s : System) (budget : ℕ) → AreNamed context.rules.forms → HavePlaces (grown_tree context s budget) → IsReadable (grown_tree context s budget)
+  pub accepted : (context : Context) (s : System) (t : Tree) → IsSpellable context → HavePlaces t → HaveSides t → IsAccepted context s t → IsReadable t
+  pub grown : (context : Context) (s : System) (budget : ℕ) → IsSpellable context → HavePlaces (grown_tree context s budget) → IsReadable (grown_tree context s budget)

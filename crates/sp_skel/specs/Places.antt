@@ -29,3 +29,12 @@ abbrev mutual
   pub AllHavePlaces : Branches → Type 0
   AllHavePlaces no_branch = Unit {0}
   AllHavePlaces (branch name tree branches) = HavePlaces tree × AllHavePlaces branches
+
+-- the sides of `same` in a tree are such as a text can hold
+abbrev mutual
+  pub HaveSides : Tree → Type 0
+  HaveSides (node move branches) = HasSides move × AllHaveSides branches
+
+  pub AllHaveSides : Branches → Type 0
+  AllHaveSides no_branch = Unit {0}
+  AllHaveSides (branch name tree branches) = HaveSides tree × AllHaveSides branches

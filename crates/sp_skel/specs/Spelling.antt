@@ -2,7 +2,9 @@
 use Rattle.std.specs.Prelude.{◌≡◌, false, if◌then◌else◌, List, [], ◌∷◌, codes}
 use Rattle.sp_spec_text.specs.Token.{Lexeme, word, solve}
 use Rattle.sp_spec_text.specs.Names.{IsName, IsWord}
-use Rattle.sp_spec_system.specs.Move.{Move}
+use Rattle.sp_spec.specs.Lists.{Every}
+use Rattle.sp_spec_printed.specs.StepLines.{HaveNames, IsQuotable}
+use Rattle.sp_spec_system.specs.Move.{Move, Context}
 use Rattle.sp_spec_system.specs.Words.{Words, words_of, goal_text, stand_alone}
 use Rattle.sp_spec_system.specs.Words as words
 use Rattle.sp_spec_proof.specs.Tree.{Tree, node, Branches, no_branch, branch}
@@ -67,3 +69,9 @@ abbrev mutual
 abbrev pub AreNamed : List RuleForms → Type 0
 AreNamed [] = Unit {0}
 AreNamed (r ∷ rules) = IsName r.name × IsWord r.name × AreNamed rules
+
+-- What a proof's trees name can stand in a text: the rules and the symbols have such names, and the public names may stand in quotes.
+pub record IsSpellable (context : Context) : Type 0 where
+  pub rules : AreNamed context.rules.forms
+  pub symbols : HaveNames context.rules.signature.symbols
+  pub names : Every IsQuotable context.public_names

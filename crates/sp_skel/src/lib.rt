@@ -4,8 +4,8 @@
 // The words of moves are a table of sp_spec_system (specs/Words.antt). Here specs/TreeText.antt is the text of a tree; texts are cut into words
 // by functions in specs/MoveTexts.antt; specs/Steps.antt says what a method says, and which tree a written proof says.
 // Carried here: the promise that what is printed of a tree is its text, and that the tree of a written proof is the one that it says; that the
-// text of a tree is read back as that tree, where its cases have names or are alone (specs/Spelling.antt). Accepted trees, and so grown ones,
-// are such trees.
+// text of a tree is read back as that tree, where its cases have names or are alone (specs/Spelling.antt). Accepted trees whose sides a text can
+// hold, and so grown ones, are such trees.
 #![tactic(auto)]
 
 ghost use Rattle.sp_skel.specs.Laws.{AcceptedTreesAreReadable, TreesAreReadBack, WordsAreMoves};
@@ -30,7 +30,8 @@ pub fn trees_are_read_back()
     ensures { TreesAreReadBack }
 {}
 
-/// Accepted trees, and so grown ones, are trees whose texts are read back, where the names of the rules are such as stand in texts.
+/// Accepted trees whose sides a text can hold, and so grown ones, are trees whose texts are read back, where rules, symbols and public names have
+/// such names as stand in texts.
 pub fn accepted_trees_are_readable()
     ensures { AcceptedTreesAreReadable }
 {}

@@ -6,12 +6,12 @@ use Rattle.sp_spec_system.specs.Picked.{first_some}
 use Rattle.sp_spec_formula.specs.Induction.{root_induction}
 use Rattle.sp_spec_formula.proofs.Roots.{it_is_there}
 use Rattle.sp_spec_proof.specs.Cases.{simple_case}
-use Rattle.sp_spec_proof.specs.Kinds.{Picker, of_rank, only, pickers_by, are_consecutive, first_pickers, pickers}
+use Rattle.sp_spec_proof.specs.Kinds.{Picker, of_rank, only, pickers_by, last_picker, are_consecutive, first_pickers, pickers}
 use Rattle.sp_spec_proof.specs.Choice.{with_rank, is_instance, picked, choice}
 
 module _ (context : Context) where
   abbrev kinds : List Picker
-  kinds = pickers_by (are_consecutive context.root)
+  kinds = pickers_by (are_consecutive context.root) ++ last_picker ∷ []
 
   abbrev first : Picker
   first = of_rank 0 (only induction)

@@ -28,7 +28,7 @@ leaves_steps : (cs : List Case) → steps_in (leaves_for cs) ≡ 0
 leaves_steps [] = refl
 leaves_steps (c ∷ cs) = omega (arith, leaves_steps cs)
 
-open_leaves_steps : (o : Option (List Case)) → steps_in (open_leaves o) ≡ 0
+pub open_leaves_steps : (o : Option (List Case)) → steps_in (open_leaves o) ≡ 0
 open_leaves_steps None = refl
 open_leaves_steps (Some cs) = leaves_steps cs
 
@@ -40,19 +40,19 @@ grown_leaf_steps : (context : Context) (s : System) (chosen : Ranked) → steps 
 grown_leaf_steps context s chosen = omega (arith, step_of_one chosen.move, open_leaves_steps (cases context s chosen.move))
 
 -- the first tree is grown, or the branches behind it
-IfSome-first_grown : (P : Branches → Type 0) (name : List ℕ) (tree : Tree) (branches : Branches) (o : Option Tree) (later : Option Branches)
+pub IfSome-first_grown : (P : Branches → Type 0) (name : List ℕ) (tree : Tree) (branches : Branches) (o : Option Tree) (later : Option Branches)
     → IfSome o (λ t. P (branch name t branches)) → IfSome later (λ bs. P (branch name tree bs)) → IfSome (first_grown name tree branches o later) P
 IfSome-first_grown P name tree branches (Some t) later h k = h
 IfSome-first_grown P name tree branches None later h k = IfSome_map (branch name tree) P later k
 
 -- a leaf that is grown, or none
-IfSome_if : {A : Type 0} (P : A → Type 0) (b : Bool) (o : Option A) → IfSome o P → IfSome (if b then o else None) P
+pub IfSome_if : {A : Type 0} (P : A → Type 0) (b : Bool) (o : Option A) → IfSome o P → IfSome (if b then o else None) P
 IfSome_if P true o h = h
 IfSome_if P false o h = tt
 
 module _ (context : Context) (k : ℕ) where
   mutual
-    grown_at_accepted : (depth : ℕ) (tree : Tree) (s : System) → IsAccepted context s tree → IfSome (grown_at context k depth s tree) (IsAccepted context s)
+    pub grown_at_accepted : (depth : ℕ) (tree : Tree) (s : System) → IsAccepted context s tree → IfSome (grown_at context k depth s tree) (IsAccepted context s)
     grown_at_accepted depth (node move branches) s accepted =
         cond_both (is_unproved move) _ _ (λ (o : Option Tree). IfSome o (IsAccepted context s))
         (λ _. IfSome_if (IsAccepted context s) (has_class (class_of (choice context s) depth) k) (option_map (grown_leaf context s) (choice context s)) (grown_leaf_accepted context s))
@@ -100,7 +100,7 @@ module _ (context : Context) (k : ℕ) where
         (IfSome_then _ {Q = λ bs. steps tree + steps_in bs ≤ suc (steps tree + steps_in branches)} (grown_in_steps depth branches (Some cs)) (λ bs h. omega arith))
 
 -- what holds of the tree that stays, and of what becomes of a grown one, holds of the result
-go_on_keeps : (P Q : Tree → Type 0) (again : Tree → Tree) (tree : Tree) (o : Option Tree)
+pub go_on_keeps : (P Q : Tree → Type 0) (again : Tree → Tree) (tree : Tree) (o : Option Tree)
     → P tree → IfSome o Q → ((t : Tree) → Q t → P (again t)) → P (go_on again tree o)
 go_on_keeps P Q again tree None h k continue = h
 go_on_keeps P Q again tree (Some t) h k continue = continue t k
@@ -110,7 +110,7 @@ grown_by_keeps : (Q : Tree → Type 0) (context : Context) (s : System) (tree : 
 grown_by_keeps Q context s tree None each = tt
 grown_by_keeps Q context s tree (Some k) each = each k
 
-grown_once_keeps : (Q : Tree → Type 0) (context : Context) (s : System) (tree : Tree) → ((k : ℕ) → IfSome (grown_at context k 0 s tree) Q) → IfSome (grown_once context s tree) Q
+pub grown_once_keeps : (Q : Tree → Type 0) (context : Context) (s : System) (tree : Tree) → ((k : ℕ) → IfSome (grown_at context k 0 s tree) Q) → IfSome (grown_once context s tree) Q
 grown_once_keeps Q context s tree each = at (has_end tree)
   where
     at : (b : Bool) → IfSome (if b then None else grown_by context s tree (least_class context 0 s tree)) Q

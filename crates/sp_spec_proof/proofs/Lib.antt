@@ -1,6 +1,9 @@
 pub mod Contradictions
 pub mod Chosen
 pub mod First
+pub mod Progress
 pub mod Growing
+pub mod Spent
+pub mod GrownMoves
 pub mod Logs
 pub mod TreeLogs

@@ -3,9 +3,10 @@
 use Rattle.std.specs.Prelude.{Bool, true, false, not, if◌then◌else◌, ℕ, suc, List, [], ◌∷◌, ◌++◌, map, flat_map, Option, Some, None, option_map}
 use Rattle.sp_spec.specs.Term.{Sort, Msg, Fresh, Pub, Variable, Term, var, app}
 use Rattle.sp_spec_system.specs.System.{System, Happening, Event, happening_premises}
-use Rattle.sp_spec_system.specs.Move.{Move, Root, Context, simplify, contradiction, solved, or, action, premise, know, chain, induction}
+use Rattle.sp_spec_system.specs.Move.{Move, Root, Context, simplify, contradiction, solved, or, action, premise, know, chain, induction, more_events, finish}
 use Rattle.sp_spec_know.specs.Know.{learnt_anyhow, is_message_variable}
 use Rattle.sp_spec_know.specs.Chain.{Begun, begun}
+use Rattle.sp_spec_proof.specs.Deciding.{told_comparisons, comparisons, sames, tops}
 
 -- a kind of moves: its rank, and the moves of that kind at a system, from the oldest on
 pub record Picker : Type 0 where
@@ -85,6 +86,17 @@ abbrev pub event_pickers : Bool → List Picker
 event_pickers false = map (λ (kind : EventKind). of_rank kind.0 (at_each_event kind.1)) event_kinds
 event_pickers true = of_rank 6 (at_each_event (all_at event_kinds)) ∷ []
 
+-- the kinds that decide what is left open
+abbrev pub deciding_pickers : List Picker
+deciding_pickers =
+    of_rank 11 told_comparisons
+    ∷ of_rank 12 comparisons
+    ∷ of_rank 13 sames
+    ∷ of_rank 14 (only more_events)
+    ∷ of_rank 15 tops
+    ∷ []
+
+-- all kinds but the last one
 abbrev pub pickers_by : Bool → List Picker
 pickers_by consecutive =
     of_rank 1 (only contradiction)
@@ -92,7 +104,10 @@ pickers_by consecutive =
     ∷ of_rank 3 (only solved)
     ∷ of_rank 4 (at_each_formula or)
     ∷ of_rank 5 (at_each_formula action)
-    ∷ event_pickers consecutive
+    ∷ (event_pickers consecutive ++ deciding_pickers)
+
+abbrev pub last_picker : Picker
+last_picker = of_rank 16 (only finish)
 
 -- what begins from nothing isn't
 abbrev pub are_consecutive : Option Root → Bool
@@ -106,4 +121,4 @@ first_pickers (Some r) = if r.begins_with_induction then of_rank 0 (only inducti
 
 -- the kinds in the order in which they are asked
 abbrev pub pickers : Context → List Picker
-pickers context = first_pickers context.root ++ pickers_by (are_consecutive context.root)
+pickers context = first_pickers context.root ++ (pickers_by (are_consecutive context.root) ++ last_picker ∷ [])

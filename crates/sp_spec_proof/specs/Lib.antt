@@ -1,6 +1,7 @@
 pub mod ButFinish
 pub mod Cases
 pub mod Choice
+pub mod Deciding
 pub mod Finish
 pub mod Growth
 pub mod Kinds

@@ -1,6 +1,6 @@
 -- A move has cases exactly where no clause of its condition fails.
-use Rattle.std.proofs.Common.{◌≡◌, ℕ, Bool, true, false, ◌||◌, if◌then◌else◌, List, [], ◌∷◌, map, Option, Some, None, option_map, is_none, is_some, slice_get, refl, sym, ap, ◌∙◌}
-use Rattle.sp_spec.specs.Term.{Variable}
+use Rattle.std.proofs.Common.{◌≡◌, ℕ, Bool, true, false, ◌&&◌, ◌||◌, if◌then◌else◌, List, [], ◌∷◌, map, Option, Some, None, option_map, is_none, is_some, slice_get, refl, sym, ap, ◌∙◌}
+use Rattle.sp_spec.specs.Term.{Variable, Msg}
 use Rattle.sp_spec.specs.Rule.{Action, Fact}
 use Rattle.sp_spec.specs.Guarded.{Guarded, truth, falsity, holds, fails, all_of, one_of, some, every, acts, same, same_time, before, last, free_time, bound_time}
 use Rattle.sp_spec.specs.Log.{is_fr, is_in}
@@ -9,18 +9,24 @@ use Rattle.sp_spec_proof.specs.Rows.{has_place, is_contradictory}
 use Rattle.sp_spec_system.specs.Formulas.{freed_action}
 use Rattle.sp_spec_system.specs.Rules.{Rules}
 use Rattle.sp_spec_system.specs.MakingOne.{event_at}
-use Rattle.sp_spec_system.specs.Move.{Move, simplify, contradiction, unproved, solved, or, action, premise, know, chain, induction, Context, Case, end_log}
+use Rattle.sp_spec_system.specs.Move.{Side, Move, simplify, contradiction, unproved, solved, or, action, premise, know, chain, induction, source, compare, top, same, more_events, finish, Context, Case, end_log}
 use Rattle.sp_spec_formula.specs.Induction.{root_induction}
 use Rattle.sp_spec_graph.specs.Premise.{is_linked}
+use Rattle.sp_spec_proof.specs.Finish.{is_decided}
 use Rattle.sp_spec_proof.specs.Cases.{raw_cases, simple_case, cases}
 use Rattle.sp_moves_formula.specs.WhyNot.{why_no_disjunction, why_not_freed, why_no_action}
-use Rattle.sp_moves.specs.Clause.{Clause, another_crate, condition, absent, HasCases}
+use Rattle.sp_moves.specs.Clause.{Clause, another_crate, condition, absent, other_kind, HasCases}
 use Rattle.sp_moves_formula.proofs.Exact as formula
 use Rattle.sp_spec_system.specs.Occurring.{has_time}
 use Rattle.sp_moves_graph.specs.WhyNot.{why_not_open, why_not_at, why_not_of}
 use Rattle.sp_moves_graph.proofs.Exact as graph
 use Rattle.sp_moves_know.specs.WhyNot.{why_not_known, why_not_chained}
 use Rattle.sp_moves_know.proofs.Exact as learning
+use Rattle.sp_spec_formula.specs.Top.{of_number, has_variable}
+use Rattle.sp_spec_formula.specs.Sides.{stands_there, is_undecided}
+use Rattle.sp_spec_graph.specs.Compare.{are_comparable}
+use Rattle.sp_moves_decide.specs.WhyNot.{has_name_variable, stands_somewhere, why_not_sides}
+use Rattle.sp_moves_decide.proofs.Exact as deciding
 use Rattle.sp_step.specs.WhyNot.{unless, why_not, where_none, IsAsked}
 use Rattle.sp_moves_know.proofs.Exact.{known_asked, chained_asked}
 
@@ -43,7 +49,12 @@ raw context s (premise i p) = (graph.exactly context.rules.forms s (premise i p)
 raw context s (know i) = (learning.exactly context.rules s (know i)).exact
 raw context s (chain i) = (learning.exactly context.rules s (chain i)).exact
 raw context s induction = where_there (root_induction context.root s)
-raw context s move = refl
+raw context s (compare i j) = (deciding.exactly context.rules context.public_names s (compare i j)).exact
+raw context s (top k) = (deciding.exactly context.rules context.public_names s (top k)).exact
+raw context s (same a b) = (deciding.exactly context.rules context.public_names s (same a b)).exact
+raw context s more_events = (deciding.exactly context.rules context.public_names s more_events).exact
+raw context s finish = by_test (is_decided context s) []
+raw context s (source i) = refl
 
 simpler : (rules : Rules) (o : Option (List Case)) → is_some o ≡ is_some (option_map (map (simple_case rules)) o)
 simpler rules None = refl
@@ -56,16 +67,17 @@ by_failing : (b : Bool) → is_none (unless b) ≡ false → Some condition ≡ 
 by_failing true e = absurd cc
 by_failing false e = refl
 
-fails_there : (context : Context) (s : System) (m : Move) → is_none (why_not context s m) ≡ false → where_none context.rules.signature.symbols s m ≡ why_not context s m
+fails_there : (context : Context) (s : System) (m : Move) → is_none (why_not context s m) ≡ false → where_none context.rules.signature.symbols context.public_names s m ≡ why_not context s m
 fails_there context s simplify e = by_failing (has_place context.rules s) e
 fails_there context s contradiction e = by_failing (is_contradictory context.rules s) e
 fails_there context s unproved e = absurd cc
 fails_there context s solved e = by_failing (is_some (end_log context s)) e
 fails_there context s induction e = by_failing (is_some (root_induction context.root s)) e
+fails_there context s finish e = by_failing (is_decided context s) e
 fails_there context s move e = refl
 
 -- what fails where there are no cases
-pub none_there : (context : Context) (s : System) (m : Move) → None ≡ cases context s m → where_none context.rules.signature.symbols s m ≡ why_not context s m
+pub none_there : (context : Context) (s : System) (m : Move) → None ≡ cases context s m → where_none context.rules.signature.symbols context.public_names s m ≡ why_not context s m
 none_there context s m e = fails_there context s m ((exactly context s m).exact ∙ ap is_some (sym e))
 
 never : (b : Bool) (c : Clause) → (c ≡ another_crate → ⊥) → (let r : Option Clause = if b then Some c else None in r) ≡ Some another_crate → ⊥
@@ -128,6 +140,18 @@ event_asked : (s : System) (i p : ℕ) (o : Option Event) → why_not_of s i p o
 event_asked s i p None e = absurd cc
 event_asked s i p (Some event) e = happening_asked s i p event.happening e
 
+sort_asked : (message named : Bool) → (let r : Option Clause = if message then None else (if named then Some other_kind else Some absent) in r) ≡ Some another_crate → ⊥
+sort_asked true named e = absurd cc
+sort_asked false true e = absurd cc
+sort_asked false false e = absurd cc
+
+stand_asked : (stand undecided : Bool) → (let r : Option Clause = if stand then (if undecided then None else Some condition) else Some other_kind in r) ≡ Some another_crate → ⊥
+stand_asked true undecided e = unless_asked undecided e
+stand_asked false undecided e = absurd cc
+
+sides_asked : (constants : List (List ℕ)) (s : System) (a b : Side) → why_not_sides constants s a b ≡ Some another_crate → ⊥
+sides_asked constants s a b e = stand_asked (stands_there constants s a && stands_there constants s b) (is_undecided constants s a b) e
+
 pub each_is_asked : (context : Context) (s : System) (m : Move) → IsAsked (why_not context s m)
 each_is_asked context s simplify = record { asked = unless_asked (has_place context.rules s) }
 each_is_asked context s contradiction = record { asked = unless_asked (is_contradictory context.rules s) }
@@ -141,4 +165,11 @@ each_is_asked context s (know i) =
     record { asked = time_asked (why_not_known symbols (event_at i s.events)) (has_time i s) (known_asked symbols (event_at i s.events)) }
 each_is_asked context s (chain i) = record { asked = time_asked (why_not_chained (event_at i s.events)) (has_time i s) (chained_asked (event_at i s.events)) }
 each_is_asked context s induction = record { asked = unless_asked (is_some (root_induction context.root s)) }
-each_is_asked context s move = record { asked = λ e. absurd cc }
+each_is_asked context s (compare i j) = record { asked = time_asked (unless (are_comparable s i j)) (has_time i s && has_time j s) (unless_asked (are_comparable s i j)) }
+each_is_asked context s (top k) = record { asked = sort_asked (has_variable s (of_number Msg k)) (has_name_variable s k) }
+each_is_asked context s (same a b) =
+    let cs = context.public_names in
+    record { asked = time_asked (why_not_sides cs s a b) (stands_somewhere cs s a && stands_somewhere cs s b) (sides_asked cs s a b) }
+each_is_asked context s more_events = record { asked = never s.closed condition condition_differs }
+each_is_asked context s finish = record { asked = unless_asked (is_decided context s) }
+each_is_asked context s (source i) = record { asked = λ e. absurd cc }

@@ -2,3 +2,5 @@ pub mod Exact
 pub mod Kept
 pub mod Turns
 pub mod RowSearches
+pub mod Choosing
+pub mod LearningMoves

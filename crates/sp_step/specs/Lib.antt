@@ -4,3 +4,5 @@ pub mod SimplifyView
 pub mod ReduceView
 pub mod WordsView
 pub mod Kept
+pub mod Choosing
+pub mod Learning

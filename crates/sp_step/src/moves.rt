@@ -7,8 +7,13 @@ ghost use Rattle.sp_spec_proof.specs.Cases as cases_spec;
 ghost use Rattle.sp_step.specs.View.{context_of, rules_of, move_of, case_of};
 
 use crate::context::{Context, Rules};
+use crate::decided::is_decided;
 use crate::simplify::{has_place, is_contradictory, simplify};
 pub use sp_moves::moves::{Case, Move};
+use sp_moves_decide::compare::compare_cases;
+use sp_moves_decide::more::more_cases;
+use sp_moves_decide::same::same_cases;
+use sp_moves_decide::top::top_cases;
 use sp_moves_formula::or::or_cases;
 use sp_moves_formula::solving::solving_action;
 use sp_moves_graph::premise::premise_cases;
@@ -41,6 +46,21 @@ fn ended(alloc: Global, context: &Context, system: &System) -> Result<Option<Vec
     ensures { IfOk result (λ o. option_map (λ cs. map case_of cs.items) o ≡ cases_spec.raw_cases (context_of context.now) (system_of system.now) spec.solved) }
 {
     if context.ends(alloc, system)? {
+        Ok(Some(Vec::new(alloc)))
+    } else {
+        Ok(None)
+    }
+}
+
+// No case, if nothing is left to decide.
+fn finished(
+    alloc: Global,
+    context: &Context,
+    system: &System,
+) -> Result<Option<Vec<Case>>, AllocError>
+    ensures { IfOk result (λ o. option_map (λ cs. map case_of cs.items) o ≡ cases_spec.raw_cases (context_of context.now) (system_of system.now) spec.finish) }
+{
+    if is_decided(alloc, context, system)? {
         Ok(Some(Vec::new(alloc)))
     } else {
         Ok(None)
@@ -83,8 +103,16 @@ fn raw_cases(
         }
         Move::Chain(time) => chain_cases(alloc, context.sought.signature, system, *time),
         Move::Induction => root_induction(alloc, &context.sought.root, system),
-        // these have no cases as yet
-        _ => Ok(None),
+        Move::Compare(first, second) => compare_cases(alloc, system, *first, *second),
+        Move::Top(number) => {
+            let symbols = &context.sought.signature.symbols;
+            top_cases(alloc, symbols, system, *number)
+        }
+        Move::Same(one, other) => same_cases(alloc, context.sought.constants, system, one, other),
+        Move::MoreEvents => more_cases(alloc, context.rules, system),
+        Move::Finish => finished(alloc, context, system),
+        // it has no cases as yet
+        Move::Source(_) => Ok(None),
     }
 }
 

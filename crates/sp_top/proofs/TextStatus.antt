@@ -216,6 +216,7 @@ done_rightly Prove budget chosen bytes text status a = record {
   analysis = a.analysis;
   status_is = a.status_is;
   right = verdicts_are_right_lem.right budget chosen bytes text a.outcomes a.analysis;
+  spent = verdicts_are_right_lem.spent budget chosen bytes text a.outcomes a.analysis;
   behind = written_is_checked_lem.behind budget chosen bytes text a.outcomes a.analysis;
   again = again_unnamed budget chosen bytes text a.outcomes a.analysis;
 }
@@ -234,6 +235,7 @@ done_rightly Graph budget chosen bytes text status a = record {
   analysis = a.analysis;
   status_is = a.status_is;
   right = verdicts_are_right_lem.right budget chosen bytes a.analysed a.outcomes a.analysis;
+  spent = verdicts_are_right_lem.spent budget chosen bytes a.analysed a.outcomes a.analysis;
   answer_is = a.text_is;
 }
 done_rightly Gen budget chosen bytes text status a = record {
@@ -242,5 +244,6 @@ done_rightly Gen budget chosen bytes text status a = record {
   analysis = a.analysis;
   status_is = a.status_is;
   right = verdicts_are_right_lem.right budget chosen bytes a.analysed a.outcomes a.analysis;
+  spent = verdicts_are_right_lem.spent budget chosen bytes a.analysed a.outcomes a.analysis;
   answer_is = a.text_is;
 }

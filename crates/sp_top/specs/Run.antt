@@ -14,7 +14,7 @@ use Rattle.sp_spec_text.specs.Written.{WrittenText}
 use Rattle.sp_spec_text.specs.Declared.{theory_in}
 use Rattle.sp_pose.specs.Problem.{Poses}
 use Rattle.sp_analysis.specs.Checking.{Judged, IsChecking}
-use Rattle.sp_analysis.specs.Laws.{Means, JudgedRightly, StandsBehind, IsCheckedAgain}
+use Rattle.sp_analysis.specs.Laws.{Means, IsSpent, JudgedRightly, StandsBehind, IsCheckedAgain}
 use Rattle.sp_analysis.specs.Replies.{LacksLemma}
 use Rattle.sp_words.specs.declared.Command.{Command}
 use Rattle.sp_words.specs.declared.Command.TheVariants.{Prove, Check, Replay, Variants, Wf, Graph, Gen}
@@ -34,13 +34,14 @@ pub record UsageExactly (words : List (List ℕ)) (status : Status) : Type 0 whe
 
 -- Each lemma of the text is tried within so many moves, or the one that is named, and each verdict is so. A lemma on all traces that is verified holds in every execution of the theory that
 -- the text says that meets its restrictions, steps of the adversary included, and one that is falsified is broken by the execution that is written behind
--- its line, which meets them. One on some trace that is verified is satisfied by that execution, and one that is falsified holds in none. The verdicts stand
+-- its line, which meets them. One on some trace that is verified is satisfied by that execution, and one that is falsified holds in none. An analysis that is incomplete has made as many moves as it may. The verdicts stand
 -- behind the word `end` of what is written. Where no lemma is named, that says the same theory with the proofs that were grown, and is checked as it was tried.
 pub record TriedRightly (budget : ℕ) (chosen : Option (List ℕ)) (bytes answer : List ℕ) (status : Status) : Type 0 where
   pub outcomes : List Outcome
   pub analysis : IsAnalysis budget chosen bytes answer outcomes
   pub status_is : status ≡ status_of (verdicts_of outcomes)
   pub right : Every (λ (o : Outcome). Means (theory_of (theory_in analysis.theory)) o.lemma.kind o.verdict o.log o.lemma) outcomes
+  pub spent : Every (IsSpent budget) outcomes
   pub behind : StandsBehind analysis.theory answer outcomes
   pub again : chosen ≡ None → IsCheckedAgain analysis.theory answer outcomes
 
@@ -52,13 +53,14 @@ pub record CheckedRightly (chosen : Option (List ℕ)) (bytes answer : List ℕ)
   pub status_is : status ≡ status_of (verdicts_on judged)
   pub right : Every (JudgedRightly (theory_in checking.theory)) judged
 
--- Each lemma is tried, or the one that is named, and its verdict is so, as where its proof is written; this is written of the outcomes.
+-- Each lemma is tried, or the one that is named, and its verdict is so, as where its proof is written, as is the number of moves of an incomplete analysis; this is written of the outcomes.
 pub record ShownRightly (budget : ℕ) (chosen : Option (List ℕ)) (shows : Theory → List Outcome → List ℕ) (bytes answer : List ℕ) (status : Status) : Type 0 where
   pub outcomes : List Outcome
   pub analysed : List ℕ
   pub analysis : IsAnalysis budget chosen bytes analysed outcomes
   pub status_is : status ≡ status_of (verdicts_of outcomes)
   pub right : Every (λ (o : Outcome). Means (theory_of (theory_in analysis.theory)) o.lemma.kind o.verdict o.log o.lemma) outcomes
+  pub spent : Every (IsSpent budget) outcomes
   pub answer_is : answer ≡ shows (theory_of (theory_in analysis.theory)) outcomes
 
 -- The steps behind the text are an execution, whose trace is written with what is true over it, or the first that can't be done is named; and the

@@ -4,7 +4,7 @@ use Rattle.std.proofs.lemmas.Iterator.Adapters.{YieldsList-from_vec}
 use Rattle.sp_system.specs.SystemView.{system_of}
 use Rattle.sp_step.specs.View.{context_of}
 use Rattle.sp_search.specs.declared.node.Node.{Node}
-use Rattle.sp_search.specs.Choosing.{ranked_of}
+use Rattle.sp_step.specs.Choosing.{ranked_of}
 use Rattle.sp_search.specs.NodeView.{nodes_at}
 use Rattle.sp_search.proofs.InOrder.{spliced}
 use Rattle.sp_search.proofs.Replaced.{none_replaced}

@@ -1,0 +1,9 @@
+pub mod Moves
+pub mod Pairs
+pub mod Times
+pub mod Names
+pub mod Events
+pub mod Learnt
+pub mod Premises
+pub mod Decided
+pub mod Examples

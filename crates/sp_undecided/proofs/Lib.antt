@@ -1,0 +1,4 @@
+pub mod Counted
+pub mod Instances
+pub mod Pairs
+pub mod Sorted
