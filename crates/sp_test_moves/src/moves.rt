@@ -470,7 +470,7 @@ fn other_moves_take_up_no_premise(rt: HostRuntime) -> Result<(), Fail> {
 }
 
 // a move, and why it is no instance
-static MOVE_CLAUSES: [(PlainMove, Option<Clause>); 17] = [
+static MOVE_CLAUSES: [(PlainMove, Option<Clause>); 20] = [
     (PlainMove::Simplify, Some(Clause::Condition)),
     (PlainMove::Contradiction, Some(Clause::Condition)),
     (PlainMove::Solved, Some(Clause::Condition)),
@@ -481,13 +481,19 @@ static MOVE_CLAUSES: [(PlainMove, Option<Clause>); 17] = [
     (PlainMove::Or(1 << 64), Some(Clause::Absent)),
     (PlainMove::Induction, Some(Clause::Condition)),
     (PlainMove::Source(5), Some(Clause::Condition)),
-    (PlainMove::Compare(4, 5), Some(Clause::Condition)),
-    (PlainMove::Top(0), Some(Clause::Condition)),
+    (PlainMove::Compare(4, 5), Some(Clause::Absent)),
+    (PlainMove::Compare(5, 5), Some(Clause::Condition)),
+    (PlainMove::Top(0), None),
+    (PlainMove::Top(1), Some(Clause::Absent)),
     (
         PlainMove::Same(PlainSide::Fresh(0), PlainSide::Fresh(1)),
-        Some(Clause::Condition),
+        Some(Clause::Absent),
     ),
-    (PlainMove::MoreEvents, Some(Clause::Condition)),
+    (
+        PlainMove::Same(PlainSide::Fresh(0), PlainSide::Fresh(0)),
+        Some(Clause::OtherKind),
+    ),
+    (PlainMove::MoreEvents, None),
     (PlainMove::Finish, Some(Clause::Condition)),
     (PlainMove::Action(0), None),
     (PlainMove::Unproved, None),

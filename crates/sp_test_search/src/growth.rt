@@ -6,11 +6,13 @@ ghost use Rattle.sp_search.specs.NodeView.{node_at};
 
 use sp_formula::formula::{Binder, Moment};
 use sp_search::{Node, OpenLeaf, Ranked, Tree, choice, grown_tree, is_finished, steps};
-use sp_step::moves::Move;
+use sp_step::moves::{Move, cases};
 use sp_system::system::System;
 use sp_term::term::Sort;
 use sp_test_make::plain::{NO_FACTS, PlainFacts, PlainRule, PlainTerm, rules_of};
-use sp_test_make::plain_systems::{PlainAtom, PlainFormula, PlainLeaf, formula_of};
+use sp_test_make::plain_systems::{
+    EMPTY, PlainAtom, PlainFormula, PlainLeaf, PlainSystem, formula_of, system_of,
+};
 use sp_test_make::systems::system_of_one;
 use sp_test_steps::examples::Parts;
 use std::alloc::{AllocError, Global};
@@ -157,6 +159,10 @@ fn truth() -> PlainFormula<'static> {
 
 const FALSITY: PlainFormula<'static> = PlainFormula::Falsity;
 
+fn falsity() -> PlainFormula<'static> {
+    FALSITY
+}
+
 // a formula, what is sought, the number of steps, and what the tree is: a proof, or one with a log
 static GROWN: [(PlainFormula<'static>, PlainFormula<'static>, u64, Shape); 8] = [
     (REFUTED, TRUTH, 0, (0, false, None)),
@@ -166,7 +172,7 @@ static GROWN: [(PlainFormula<'static>, PlainFormula<'static>, u64, Shape); 8] = 
     (WANTED, TRUTH, 1, (1, false, None)),
     (WANTED, TRUTH, 2, (2, false, Some(1))),
     (WANTED, TRUTH, 5, (2, false, Some(1))),
-    (WANTED, FALSITY, 5, (1, false, None)),
+    (WANTED, FALSITY, 5, (5, false, None)),
 ];
 
 fn grown_cases() -> &'static [(PlainFormula<'static>, PlainFormula<'static>, u64, Shape)] {
@@ -183,5 +189,40 @@ fn trees_are_grown(rt: HostRuntime) -> Result<(), Fail> {
     let root = of_one(alloc, &wanted())?;
     let parts = looked_for(alloc, &truth())?;
     assert_eq!(rt; choice(alloc, &parts.context(), &root)?, Some(action()));
+    Ok(())
+}
+
+// a system in which nothing happens, and nothing more than that
+static CLOSED: PlainSystem<'static> = PlainSystem {
+    closed: true,
+    ..EMPTY
+};
+
+fn closed() -> &'static PlainSystem<'static> {
+    &CLOSED
+}
+
+fn empty() -> PlainSystem<'static> {
+    EMPTY
+}
+
+// The log without entries is what is looked for, or it isn't: where nothing more happens the search is at its end then, and else something may.
+#[test]
+fn searches_end_where_nothing_is_left(rt: HostRuntime) -> Result<(), Fail> {
+    let alloc = rt.alloc();
+    for (sought, plain, rank, chosen) in [
+        (truth(), closed(), 3, Move::Solved),
+        (falsity(), closed(), 16, Move::Finish),
+        (falsity(), &empty(), 14, Move::MoreEvents),
+    ] {
+        let parts = looked_for(alloc, &sought)?;
+        let system = system_of(alloc, plain)?;
+        let found = choice(alloc, &parts.context(), &system)?;
+        assert_eq!(rt; found, Some(Ranked { rank, chosen }));
+    }
+    let parts = looked_for(alloc, &falsity())?;
+    let system = system_of(alloc, closed())?;
+    let found = cases(alloc, &parts.context(), &system, &Move::Finish)?;
+    assert_eq!(rt; found.map(|cases| cases.len()), Some(0));
     Ok(())
 }

@@ -309,24 +309,23 @@ fn first_messages_are_tried(rt: HostRuntime) -> Result<(), Fail> {
     Ok(())
 }
 
-/// What a rule sends may be taken later or never, and anything may be taken before: the lemma is false. To see so takes both orders of two steps, which
-/// aren't compared yet, so its proof stays open below the two actions.
-const UNCOMPARED: (&str, &str, &str) = (
+/// What a rule sends may be taken later or never, and anything may be taken before: the lemma is false. To see so takes both orders of two steps.
+const COMPARED: (&str, &str, &str) = (
     "rule First: [ Fr(~x) ] --[ A(~x) ]-> [ Out(~x) ]
 rule Second: [ In(y) ] --[ B(y) ]-> [ ]
 ",
     "order: \"All x y #i #j. A(x)@i & B(y)@j ==> #i < #j\"",
-    "order (all-traces): analysis incomplete (3 steps)",
+    "order (all-traces): falsified - found trace (7 steps)",
 );
 
-fn uncompared() -> (&'static str, &'static str, &'static str) {
-    UNCOMPARED
+fn compared() -> (&'static str, &'static str, &'static str) {
+    COMPARED
 }
 
 #[test]
-fn orders_are_left_open(rt: HostRuntime) -> Result<(), Fail> {
+fn orders_are_decided(rt: HostRuntime) -> Result<(), Fail> {
     let alloc = rt.alloc();
-    let (items, lemma, line) = uncompared();
+    let (items, lemma, line) = compared();
     let summary = summary_of(&rt, alloc, items, lemma)?;
     assert!(rt; summary.as_str().starts_with(line), "{summary}");
     Ok(())

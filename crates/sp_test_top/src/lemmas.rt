@@ -172,11 +172,28 @@ const CONSTANTS: [Tried; 6] = [
 const TWO_ACTIONS: &str =
     "rule First: [ ] --[ A('c') ]-> [ ]\nrule Other: [ ] --[ B('c') ]-> [ ]\n";
 
-/// Two times whose order is left open, which no move that is built compares: in the log that is suggested the first is before the second.
+/// Two times whose order is left open: in the log that is first suggested the first is before the second.
 const TURNED: [Tried; 1] = [Tried {
     lemma: "turned: exists-trace \"Ex #i #j. A('c')@i & B('c')@j & not (#i < #j)\"",
-    tree: "simplify\nsolve( action 0 )\n  case First\n  solve( action 0 )\n    case Other\n    by sorry\n  qed\nqed\n",
-    line: "turned (exists-trace): analysis incomplete (3 steps)",
+    tree: "simplify
+solve( action 0 )
+  case First
+  solve( action 0 )
+    case Other
+    solve( compare 0 1 )
+      case before
+      by contradiction
+    next
+      case same
+      by contradiction
+    next
+      case after
+      SOLVED
+    qed
+  qed
+qed
+",
+    line: "turned (exists-trace): verified (7 steps)\nexecution:\nrule Other:\nrule First:\ntrace:\nB('c')\nA('c')\nend of trace",
 }];
 
 /// Two rules that show a name; one of them shows two.
@@ -184,7 +201,7 @@ const TWO_RULES: &str = "rule First: [ Fr(~k) ] --[ A(~k) ]-> [ ]
 rule Second: [ Fr(~a), Fr(~b) ] --[ A(~a), A(~b) ]-> [ ]
 ";
 
-/// What is verified, what is left open and what is falsified, with the cases in the order of the rules.
+/// What is verified and what is falsified, with the cases in the order of the rules.
 const IN_ORDER: [Tried; 3] = [
     Tried {
         lemma: "once: \"All x #i #j. A(x)@i & A(x)@j ==> #i = #j\"",
@@ -258,7 +275,7 @@ rule Fixed: [ ] --[ B('c') ]-> [ ]
 rule Both: [ Fr(~k) ] --[ A(~k), B('d') ]-> [ ]
 ";
 
-/// What is falsified counts before what is left open.
+/// What is falsified counts, whatever else is verified.
 const FALSIFIED_FIRST: [Tried; 5] = [
     Tried {
         lemma: "left: exists-trace \"Ex x #i #j. A(x)@i & B('c')@j & not (#i < #j)\"",
@@ -267,7 +284,16 @@ solve( action 0 )
   case Make
   solve( action 0 )
     case Fixed
-    by sorry
+    solve( compare 1 2 )
+      case before
+      by contradiction
+    next
+      case same
+      by contradiction
+    next
+      case after
+      SOLVED
+    qed
   qed
 next
   case Both
@@ -277,7 +303,7 @@ next
   qed
 qed
 ",
-        line: "left (exists-trace): analysis incomplete (4 steps)",
+        line: "left (exists-trace): verified (8 steps)\nexecution:\nrule Fixed:\nfresh ~n1\nrule Make: k = ~n1\ntrace:\nB('c')\nA(~n1)\nend of trace",
     },
     Tried {
         lemma: "never: exists-trace \"Ex #i. B('e')@i\"",
@@ -446,7 +472,7 @@ static THEORIES: [Theory; 14] = [
     Theory {
         rules: TWO_ACTIONS,
         lemmas: &TURNED,
-        status: 2,
+        status: 0,
     },
     Theory {
         rules: TWO_RULES,

@@ -35,6 +35,8 @@ mod logs;
 #[cfg(test)]
 mod named;
 #[cfg(test)]
+mod progress;
+#[cfg(test)]
 mod proofs;
 #[cfg(test)]
 mod restrictions;

@@ -298,7 +298,7 @@ restriction silent: \"All x #i. K(x)@i ==> F\"
     ],
 };
 
-/// Two steps in one order. What is suggested is the other one, which breaks the restriction, and no move that is built compares their times.
+/// Two steps in one order. What is first suggested is the other one, which breaks the restriction.
 const TURNED: Restricted = Restricted {
     items: "rule First: [ ] --[ A('c') ]-> [ ]
 rule Other: [ ] --[ B('c') ]-> [ ]
@@ -308,7 +308,7 @@ restriction turned: \"All #i #j. A('c')@i & B('c')@j & #i < #j ==> F\"
     lemmas: &[
         (
             "both: exists-trace \"Ex #i #j. A('c')@i & B('c')@j\"",
-            "both (exists-trace): analysis incomplete",
+            "both (exists-trace): verified (7 steps)",
         ),
         // Where the order is said, it is Other and then First.
         (
@@ -319,10 +319,10 @@ restriction turned: \"All #i #j. A('c')@i & B('c')@j & #i < #j ==> F\"
             "earlier: exists-trace \"Ex #i #j. A('c')@i & B('c')@j & #i < #j\"",
             "earlier (exists-trace): falsified - no trace found",
         ),
-        // It holds: the two are no one step, and the first isn't before the second. To see so takes a comparison too.
+        // It holds: the two are no one step, and the first isn't before the second.
         (
             "ordered: \"All #i #j. A('c')@i & B('c')@j ==> #j < #i\"",
-            "ordered (all-traces): analysis incomplete",
+            "ordered (all-traces): verified (7 steps)",
         ),
     ],
 };
