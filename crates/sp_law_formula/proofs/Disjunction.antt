@@ -21,7 +21,7 @@ false_or_kept falsity = inl refl
 false_or_kept f = inr (λ fs. refl)
 
 -- what is left of a disjunction: all but its first part where that is false, or the first part and what is left of the others
-left_out : (X : Guardeds → Type 0) (f : Guarded) (fs gs : Guardeds) → without_false (and_then f fs) ≡ Some gs → (f ≡ falsity → X fs)
+pub left_out : (X : Guardeds → Type 0) (f : Guarded) (fs gs : Guardeds) → without_false (and_then f fs) ≡ Some gs → (f ≡ falsity → X fs)
     → ((rest : Guardeds) → without_false fs ≡ Some rest → X (and_then f rest)) → X gs
 left_out X f fs gs e gone kept = at (false_or_kept f)
   where

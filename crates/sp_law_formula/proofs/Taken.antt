@@ -53,7 +53,7 @@ empty_good Q B [] s h k = (h, k)
 empty_good Q B (message sort ∷ bs) s h k = empty_good Q B bs (record { terms = slot sort None ∷ s.terms; times = s.times }) (tt, h) k
 empty_good Q B (time ∷ bs) s h k = empty_good Q B bs (record { terms = s.terms; times = None ∷ s.times }) h (tt, k)
 
-is_new : (s : System) (o : Option Guarded) (g : Guarded) → if_new s o ≡ Some g → o ≡ Some g
+pub is_new : (s : System) (o : Option Guarded) (g : Guarded) → if_new s o ≡ Some g → o ≡ Some g
 is_new s None g e = absurd cc
 is_new s (Some f) g e = at (is_a_formula s.formulas f || is_a_formula s.spent f) e
   where
