@@ -33,7 +33,8 @@ use Rattle.sp_pose.specs.Problem.{Poses}
 use Rattle.sp_analysis.proofs.Anew.{as_many_resolved, bound_kept, posed_anew}
 use Rattle.sp_analysis.specs.Taken.{Stated, stated_in, Taken, taken_by}
 use Rattle.sp_analysis.specs.Chosen.{run_among, placed}
-use Rattle.sp_analysis.specs.Sought.{root_of, Setting, setting_of, context_of}
+use Rattle.sp_pose.specs.Ranking.{item_ranking, rankings_in}
+use Rattle.sp_analysis.specs.Sought.{root_of, Setting, setting_by, setting_of, context_of}
 use Rattle.sp_spec_printed.specs.Verdict.{Verdict, verified, falsified, incomplete, rejected, Says, summary_line}
 use Rattle.sp_analysis.specs.Found.{block_of, IsNumbered}
 use Rattle.sp_spec_text.specs.Numerals.{counted}
@@ -147,7 +148,7 @@ trees_readable [] r = tt
 trees_readable (o ∷ os) r = (r.0, trees_readable os r.1)
 
 -- what the proofs of a text name can stand in a text
-spellable : (text : List ℕ) (theory : WrittenText) → IsTextOf text theory → (root : Root) → IsSpellable (context_of (setting_of (theory_in theory)) root)
+spellable : (text : List ℕ) (theory : WrittenText) → IsTextOf text theory → (root : Root) → IsSpellable (context_of (setting_of theory) root)
 spellable text theory says root = record {
   rules = rules_named text theory says;
   symbols = texts_have_names_lem.symbols text theory says;
@@ -177,7 +178,7 @@ module _ (budget : ℕ) (chosen : Option (List ℕ)) (text written : List ℕ) (
   words = summary (theory_of (theory_in a.theory)) outcomes
 
   readable : Every (λ (o : Outcome). IsReadable o.tree) outcomes
-  readable = all_readable (setting_of (theory_in a.theory)) budget [] (run_among chosen stated) outcomes (spellable text a.theory a.poses.says) a.outcomes_are a.places
+  readable = all_readable (setting_of a.theory) budget [] (run_among chosen stated) outcomes (spellable text a.theory a.poses.says) a.outcomes_are a.places
 
   may_be_read : Every IsReadableIf trees
   may_be_read = placed_readable chosen stated (trees_of outcomes) (trees_readable outcomes readable)
@@ -213,7 +214,7 @@ written_is_checked_lem = record { behind = stands_behind; checked = checked }
     checked : (budget : ℕ) (text written : List ℕ) (outcomes : List Outcome) (a : IsAnalysis budget None text written outcomes) → IsCheckedAgain a.theory written outcomes
     checked budget text written outcomes a =
         let theory = theory_in a.theory in
-        let setting = setting_of theory in
+        let setting = setting_of a.theory in
         let items = a.theory.items in
         let qs = stated_in (resolved a.theory).items in
         let tried : AreOutcomes setting budget [] qs outcomes = subst (λ (rs : List Stated). AreOutcomes setting budget [] rs outcomes) (run_all qs) a.outcomes_are in
@@ -227,6 +228,7 @@ written_is_checked_lem = record { behind = stands_behind; checked = checked }
         ∙ each_put (proofs_in items) grown (many_grown ∙ many_lemmas budget None text written outcomes a ∙ sym (each_proof items)) in
         let anew : WrittenText = again budget None text written outcomes a in
         let same : theory_in anew ≡ theory = same_theory a.theory (placed None qs grown) in
+        let same_setting : setting_of anew ≡ setting = ap₂ setting_by same (ap (λ (t : WrittenText). rankings_in t.items) (resolved_anew a.theory put) ∙ kept item_ranking (λ l as' p q. refl) (resolved a.theory).items put) in
         let stated_again : run_among None (stated_in (resolved anew).items) ≡ stated_with qs (as_proofs grown) =
         run_all (stated_in (resolved anew).items) ∙ ap (λ (t : WrittenText). stated_in t.items) (resolved_anew a.theory put) ∙ stated_put (resolved a.theory).items put ∙ ap (stated_with qs) put_are in
         record {
@@ -235,7 +237,7 @@ written_is_checked_lem = record { behind = stands_behind; checked = checked }
             theory = anew;
             poses = poses_again budget None text written outcomes a;
             has = refl;
-            judged_are = subst (λ (t : WrittenTheory). AreJudged (setting_of t) [] (run_among None (stated_in (resolved anew).items)) js) (sym same)
+            judged_are = subst (λ (x : Setting). AreJudged x [] (run_among None (stated_in (resolved anew).items)) js) (sym same_setting)
                 (subst (λ (xs : List Stated). AreJudged setting [] xs js) (sym stated_again) (are_again setting budget [] qs outcomes tried r));
             numbers = subst (λ (t : WrittenTheory). Every (λ (j : Judged). IsNumbered (theory_of t) j.lemma j.log) js) (sym same)
                 (numbers_again setting budget (theory_of theory) [] qs outcomes tried a.numbers);

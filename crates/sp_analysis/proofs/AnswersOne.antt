@@ -146,9 +146,9 @@ one_answer : (budget : ℕ) (chosen : Option (List ℕ)) (text written other : L
 one_answer budget chosen text written other outcomes others a b =
     let theory = text_one a.poses.says b.poses.says in
     let qs : WrittenText → List Stated = λ t. stated_in (resolved t).items in
-    let tried : AreOutcomes (setting_of (theory_in b.theory)) budget [] (run_among chosen (qs b.theory)) outcomes =
-    subst (λ (t : WrittenText). AreOutcomes (setting_of (theory_in t)) budget [] (run_among chosen (qs t)) outcomes) theory a.outcomes_are in
-    let same = same_outcomes (setting_of (theory_in b.theory)) budget [] (run_among chosen (qs b.theory)) outcomes others tried b.outcomes_are in
+    let tried : AreOutcomes (setting_of b.theory) budget [] (run_among chosen (qs b.theory)) outcomes =
+    subst (λ (t : WrittenText). AreOutcomes (setting_of t) budget [] (run_among chosen (qs t)) outcomes) theory a.outcomes_are in
+    let same = same_outcomes (setting_of b.theory) budget [] (run_among chosen (qs b.theory)) outcomes others tried b.outcomes_are in
     let places = places_one (subst (λ (t : WrittenText). ArePlaces text t a.spans a.behind_end) theory a.places_are) b.places_are in
     let made : WrittenText → List Span → List Outcome → ℕ → List ℕ = λ t ps os end. analysed_text (theory_of (theory_in t)) text ps (placed chosen (qs t) (trees_of os)) os end in (
       a.written_is
@@ -163,8 +163,8 @@ one_check : (chosen : Option (List ℕ)) (text written other : List ℕ) (js oth
 one_check chosen text written other js others a b =
     let theory = text_one a.poses.says b.poses.says in
     let qs : WrittenText → List Stated = λ t. run_among chosen (stated_in (resolved t).items) in
-    let all : AreJudged (setting_of (theory_in b.theory)) [] (qs b.theory) js = subst (λ (t : WrittenText). AreJudged (setting_of (theory_in t)) [] (qs t) js) theory a.judged_are in
-    let same = same_all_judged (setting_of (theory_in b.theory)) [] (qs b.theory) js others all b.judged_are in
+    let all : AreJudged (setting_of b.theory) [] (qs b.theory) js = subst (λ (t : WrittenText). AreJudged (setting_of t) [] (qs t) js) theory a.judged_are in
+    let same = same_all_judged (setting_of b.theory) [] (qs b.theory) js others all b.judged_are in
     (a.written_is ∙ ap (checked_text (theory_of (theory_in a.theory))) same ∙ ap (λ (t : WrittenText). checked_text (theory_of (theory_in t)) others) theory ∙ sym b.written_is, same)
 
 one_shown : (shows : Theory → List Outcome → List ℕ) (budget : ℕ) (chosen : Option (List ℕ)) (text written other : List ℕ) (verdicts others : List Verdict)

@@ -28,7 +28,7 @@ use Rattle.sp_spec_forms.specs.Forms.{RuleForms, forms_of}
 use Rattle.sp_fact.specs.GroundView.{signature_of}
 use Rattle.sp_skel.specs.Places.{HavePlaces}
 use Rattle.sp_skel.specs.TreeText.{tree_text}
-use Rattle.sp_spec_text.specs.Written.{WrittenText}
+use Rattle.sp_spec_text.specs.Written.{Attribute, WrittenText}
 use Rattle.sp_spec_text.specs.Declared.{resolved, theory_in}
 use Rattle.sp_written.specs.Views as view
 use Rattle.sp_written.specs.declared.theory.Item.{Item}
@@ -40,7 +40,7 @@ use Rattle.sp_pose.proofs.Forms.{AreForms, asked_list, HasForms, has_forms, requ
 use Rattle.sp_pose.specs.Required.{Required, required_of}
 use Rattle.sp_analysis.specs.Taken.{Stated, stated_in, Taken, gives, form_taken, taken_by}
 use Rattle.sp_analysis.specs.Chosen.{is_run, is_among, has_lemma, run_among, placed, next_tree, later_trees}
-use Rattle.sp_analysis.specs.Sought.{Setting, setting_of, executed, given, context_of, proof_tree, grown_log}
+use Rattle.sp_analysis.specs.Sought.{Setting, setting_by, setting_of, executed, given, context_of, proof_tree, grown_log}
 use Rattle.sp_spec_printed.specs.Verdict.{Verdict, Says}
 use Rattle.sp_analysis.specs.Found.{block_by, IsNumberedBy}
 use Rattle.sp_spec_text.specs.Numerals.{counted}
@@ -406,25 +406,33 @@ abbrev verdicts_of : List Tried → List memory.Verdict
 verdicts_of ts = map (λ (t : Tried). t.verdict) ts
 
 -- what the proofs of a problem have in common
-abbrev setting_made : Signature → List Rule → List (List ℕ) → List Guarded → Setting
-setting_made signature rules constants restrictions = record { signature = signature; forms = map (forms_of signature.equations) rules; constants = constants; restrictions = restrictions }
+abbrev setting_made : Signature → List Rule → List (List ℕ) → List Guarded → List Attribute → Setting
+setting_made signature rules constants restrictions ranking = record {
+  signature = signature;
+  forms = map (forms_of signature.equations) rules;
+  constants = constants;
+  restrictions = restrictions;
+  ranking = ranking;
+}
 
 abbrev forms_required : List Required → List Guarded
 forms_required qs = map (λ (q : Required). q.form) qs
 
 abbrev pub setting_for : Problem → Setting
-setting_for p = setting_made (signature_of p.signature) (map rule_of p.rules.items) (map name_of p.constants.items) (forms_required (map required_of p.restrictions.items))
+setting_for p =
+    setting_made (signature_of p.signature) (map rule_of p.rules.items) (map name_of p.constants.items) (forms_required (map required_of p.restrictions.items)) (view.attributes p.ranking.items)
 
 -- with these forms of its rules and its restrictions
 abbrev pub setting_with : Problem → List RuleForms → List Guarded → Setting
-setting_with p forms restrictions = record { signature = signature_of p.signature; forms = forms; constants = map name_of p.constants.items; restrictions = restrictions }
+setting_with p forms restrictions = record { signature = signature_of p.signature; forms = forms; constants = map name_of p.constants.items; restrictions = restrictions; ranking = view.attributes p.ranking.items }
 
-setting_is : {text : List ℕ} (p : Problem) (posed : IsPosedBy text p) → setting_for p ≡ setting_of (theory_in posed.said)
+setting_is : {text : List ℕ} (p : Problem) (posed : IsPosedBy text p) → setting_for p ≡ setting_of posed.said
 setting_is p posed =
-    ap₂ (λ (rules : List Rule) (constants : List (List ℕ)). setting_made (signature_of p.signature) rules constants (forms_required (map required_of p.restrictions.items)))
+    ap₂ (λ (rules : List Rule) (constants : List (List ℕ)). setting_made (signature_of p.signature) rules constants (forms_required (map required_of p.restrictions.items)) (view.attributes p.ranking.items))
     posed.rules_are posed.constants_are
-    ∙ ap₂ (λ (x : Signature) (restrictions : List Guarded). setting_made x (theory_of (theory_in posed.said)).rules (constants_of (theory_in posed.said)) restrictions) posed.signature_is
+    ∙ ap₂ (λ (x : Signature) (restrictions : List Guarded). setting_made x (theory_of (theory_in posed.said)).rules (constants_of (theory_in posed.said)) restrictions (view.attributes p.ranking.items)) posed.signature_is
     (ap forms_required posed.restrictions_are ∙ required_forms (theory_in posed.said).restrictions)
+    ∙ ap (setting_by (theory_in posed.said)) posed.ranking_is
 
 module _ {text : List ℕ} (chosen : Option (List ℕ)) (p : Problem) (ts : List Tried) (written : List ℕ) (verdicts : List memory.Verdict) (posed : IsPosedBy text p)
     (has : is_among chosen (map (λ (a : Asked). a.name) (map asked_of p.lemmas.items)) ≡ true) where

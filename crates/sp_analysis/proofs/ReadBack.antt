@@ -73,10 +73,10 @@ module _ (text : List ℕ) (written : WrittenText) (posing : Poses text written)
 
   module _ (l : Lemma) (f : IsLemmaOf theory l) (g : Guarded) (e : checked_form l.formula ≡ Some g) (attributes : List Attribute) (taken : List Taken) (right : AreTakenRightly theory taken) (kind : TraceKind) where
     abbrev root : Root
-    root = root_of (setting_of theory) attributes taken kind g
+    root = root_of (setting_of written) attributes taken kind g
 
     abbrev context : Context
-    context = context_of (setting_of theory) root
+    context = context_of (setting_of written) root
 
     -- the system in which a proof begins
     begins_well : IsWellMade context (root_system root)
@@ -139,7 +139,7 @@ module _ (text : List ℕ) (written : WrittenText) (posing : Poses text written)
     option_read tree None is numbers = tt
     option_read tree (Some log) is numbers = read_back (names_learning l.formula) log (found_there tree log (sym is)) numbers
 
-    verdict_read : (k : Skeleton) (v : Verdict) (log : Option Log) → IsVerdictOn (setting_of theory) kind root k v log → IsNumbered (theory_of theory) l log → AreReadBack (theory_of theory) (names_learning l.formula) log
+    verdict_read : (k : Skeleton) (v : Verdict) (log : Option Log) → IsVerdictOn (setting_of written) kind root k v log → IsNumbered (theory_of theory) l log → AreReadBack (theory_of theory) (names_learning l.formula) log
     verdict_read k (rejected step clause) log (h, none) n = subst (AreReadBack (theory_of theory) (names_learning l.formula)) (sym none) tt
     verdict_read k verified log (tree, is, accepted, ends, says) n = option_read tree log ends n
     verdict_read k falsified log (tree, is, accepted, ends, says) n = option_read tree log ends n
@@ -151,10 +151,10 @@ module _ (text : List ℕ) (written : WrittenText) (posing : Poses text written)
       let k = h.is_outcome in
       subst (λ (m : Lemma). AreReadBack (theory_of theory) (names_learning m.formula) o.log) (sym k.lemma_is)
       (option_read q.lemma h.is_lemma k.form k.form_is q.attributes h.taken h.right q.lemma.kind
-      (proof_tree (setting_of theory) budget (root_of (setting_of theory) q.attributes h.taken q.lemma.kind k.form)) o.log k.log_is
+      (proof_tree (setting_of written) budget (root_of (setting_of written) q.attributes h.taken q.lemma.kind k.form)) o.log k.log_is
       (subst (λ (m : Lemma). IsNumbered (theory_of theory) m o.log) k.lemma_is numbers))
 
-  pub outcomes_read : (budget : ℕ) (chosen : Option (List ℕ)) (os : List Outcome) → AreOutcomes (setting_of theory) budget [] (run_among chosen (stated_in (resolved written).items)) os
+  pub outcomes_read : (budget : ℕ) (chosen : Option (List ℕ)) (os : List Outcome) → AreOutcomes (setting_of written) budget [] (run_among chosen (stated_in (resolved written).items)) os
       → Every (λ (o : Outcome). IsNumbered (theory_of theory) o.lemma o.log) os → Every (λ (o : Outcome). AreReadBack (theory_of theory) (names_learning o.lemma.formula) o.log) os
   outcomes_read budget chosen os h n = every_both (IsTriedIn written posing budget) _ _ (outcome_read budget) os (all_tried written posing budget chosen os h) n
 
@@ -165,7 +165,7 @@ module _ (text : List ℕ) (written : WrittenText) (posing : Poses text written)
       (verdict_read q.lemma h.is_lemma h.is_judged.form h.is_judged.form_is q.attributes h.taken h.right q.lemma.kind j.proof j.verdict j.log (judged_verdict written posing j h)
       (subst (λ (m : Lemma). IsNumbered (theory_of theory) m j.log) h.is_judged.lemma_is numbers))
 
-  pub all_judged_read : (chosen : Option (List ℕ)) (js : List Judged) → AreJudged (setting_of theory) [] (run_among chosen (stated_in (resolved written).items)) js
+  pub all_judged_read : (chosen : Option (List ℕ)) (js : List Judged) → AreJudged (setting_of written) [] (run_among chosen (stated_in (resolved written).items)) js
       → Every (λ (j : Judged). IsNumbered (theory_of theory) j.lemma j.log) js → Every (λ (j : Judged). AreReadBack (theory_of theory) (names_learning j.lemma.formula) j.log) js
   all_judged_read chosen js h n = every_both (IsJudgedIn written posing) _ _ judged_read js (all_judged_known written posing chosen js h) n
 

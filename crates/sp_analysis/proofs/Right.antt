@@ -91,10 +91,10 @@ module _ {bytes : List ℕ} (text : WrittenText) (posing : Poses bytes text) whe
   theory = theory_in text
 
   abbrev root : List Attribute → List Taken → TraceKind → Guarded → Root
-  root attributes taken kind g = root_of (setting_of theory) attributes taken kind g
+  root attributes taken kind g = root_of (setting_of text) attributes taken kind g
 
   abbrev context : List Attribute → List Taken → TraceKind → Guarded → Context
-  context attributes taken kind g = context_of (setting_of theory) (root attributes taken kind g)
+  context attributes taken kind g = context_of (setting_of text) (root attributes taken kind g)
 
   breaks : (l : Lemma) → IsLemmaOf theory l → (g : Guarded) → checked_form l.formula ≡ Some g → (s : System) (log : Log)
       → found (signature_of (theory_of theory)) (rules_of (theory_of theory)).forms (constants_of theory) (restriction_forms theory.restrictions ++ negate g ∷ []) s ≡ Some log
@@ -147,7 +147,7 @@ module _ {bytes : List ℕ} (text : WrittenText) (posing : Poses bytes text) whe
     shown exists_trace (rejected step clause) log tree accepted is says = absurd says
 
     -- so does a proof that was read; one that is rejected shows nothing
-    read_shown : (kind : TraceKind) (k : Skeleton) (v : Verdict) (log : Option Log) → IsVerdictOn (setting_of theory) kind (root attributes taken kind g) k v log → Means (theory_of theory) kind v log l
+    read_shown : (kind : TraceKind) (k : Skeleton) (v : Verdict) (log : Option Log) → IsVerdictOn (setting_of text) kind (root attributes taken kind g) k v log → Means (theory_of theory) kind v log l
     read_shown all_traces k (rejected step clause) None h = tt
     read_shown exists_trace k (rejected step clause) None h = tt
     read_shown kind k (rejected step clause) (Some log) (h, n) = absurd (let x : Some log ≡ None = n in cc)
@@ -156,7 +156,7 @@ module _ {bytes : List ℕ} (text : WrittenText) (posing : Poses bytes text) whe
     read_shown kind k incomplete log (tree, is, accepted, n, says) = shown kind incomplete log tree accepted n says
 
     -- and a lemma on all traces that is verified holds in all logs
-    read_of_logs : (kind : TraceKind) (k : Skeleton) (v : Verdict) (log : Option Log) → IsVerdictOn (setting_of theory) kind (root attributes taken kind g) k v log → kind ≡ all_traces → v ≡ verified
+    read_of_logs : (kind : TraceKind) (k : Skeleton) (v : Verdict) (log : Option Log) → IsVerdictOn (setting_of text) kind (root attributes taken kind g) k v log → kind ≡ all_traces → v ≡ verified
         → HoldsInAllLogs (theory_of theory) l
     read_of_logs kind k verified log (tree, is, accepted, n, says) a b =
         shown_of_logs text posing l f g e attributes taken right kind a tree accepted (finished_says kind verified log (IsFinished tree) a b says)
@@ -172,12 +172,12 @@ module _ {bytes : List ℕ} (text : WrittenText) (posing : Poses bytes text) whe
     pub stated : Stated
     pub right : AreTakenRightly theory taken
     pub is_lemma : IsLemmaOf theory stated.lemma
-    pub is_judged : IsJudged (setting_of theory) taken stated j
+    pub is_judged : IsJudged (setting_of text) taken stated j
 
-  pub judged_verdict : (j : Judged) (h : IsJudgedIn j) → IsVerdictOn (setting_of theory) h.stated.lemma.kind (root h.stated.attributes h.taken h.stated.lemma.kind h.is_judged.form) j.proof j.verdict j.log
-  judged_verdict j h = subst (λ (r : Root). IsVerdictOn (setting_of theory) h.stated.lemma.kind r j.proof j.verdict j.log) h.is_judged.root_is h.is_judged.verdict_is
+  pub judged_verdict : (j : Judged) (h : IsJudgedIn j) → IsVerdictOn (setting_of text) h.stated.lemma.kind (root h.stated.attributes h.taken h.stated.lemma.kind h.is_judged.form) j.proof j.verdict j.log
+  judged_verdict j h = subst (λ (r : Root). IsVerdictOn (setting_of text) h.stated.lemma.kind r j.proof j.verdict j.log) h.is_judged.root_is h.is_judged.verdict_is
 
-  all_judged_in : (taken : List Taken) (qs : List Stated) (js : List Judged) → AreTakenRightly theory taken → Every (IsLemmaOf theory) (lemmas_stated qs) → AreJudged (setting_of theory) taken qs js
+  all_judged_in : (taken : List Taken) (qs : List Stated) (js : List Judged) → AreTakenRightly theory taken → Every (IsLemmaOf theory) (lemmas_stated qs) → AreJudged (setting_of text) taken qs js
       → Every IsJudgedIn js
   all_judged_in taken [] [] right f h = tt
   all_judged_in taken [] (j ∷ js) right f h = absurd h
@@ -187,25 +187,25 @@ module _ {bytes : List ℕ} (text : WrittenText) (posing : Poses bytes text) whe
       let holds = read_of_logs q.lemma f.0 h.0.form h.0.form_is q.attributes taken right q.lemma.kind j.proof j.verdict j.log (judged_verdict j one) in
       (one, all_judged_in (taken ++ taken_by q j.verdict) qs js (takes_rightly text posing taken q j.verdict right f.0 holds) f.1 h.1)
 
-  judged_right : (j : Judged) → IsJudgedIn j → JudgedRightly theory j
+  judged_right : (j : Judged) → IsJudgedIn j → JudgedRightly text j
   judged_right j h =
       let q = h.stated in
       let k = h.is_judged in
       record {
         means = subst (λ (m : Lemma). Means (theory_of theory) m.kind j.verdict j.log m) (sym k.lemma_is)
             (read_shown q.lemma h.is_lemma k.form k.form_is q.attributes h.taken h.right q.lemma.kind j.proof j.verdict j.log (judged_verdict j h));
-        accepts = accepted_or_rejected (context_of (setting_of theory) j.root) (root_system j.root) j.proof q.lemma.kind j.verdict j.log k.verdict_is;
+        accepts = accepted_or_rejected (context_of (setting_of text) j.root) (root_system j.root) j.proof q.lemma.kind j.verdict j.log k.verdict_is;
       }
 
   -- those that are run are lemmas of the text
   run_lemmas : (chosen : Option (List ℕ)) → Every (IsLemmaOf theory) (lemmas_stated (run_among chosen (stated_in (resolved text).items)))
   run_lemmas chosen = every_run chosen (IsLemmaOf theory) (stated_in (resolved text).items) (stated_lemmas text (IsLemmaOf theory) (lemmas_of posing))
 
-  pub all_judged_known : (chosen : Option (List ℕ)) (js : List Judged) → AreJudged (setting_of theory) [] (run_among chosen (stated_in (resolved text).items)) js → Every IsJudgedIn js
+  pub all_judged_known : (chosen : Option (List ℕ)) (js : List Judged) → AreJudged (setting_of text) [] (run_among chosen (stated_in (resolved text).items)) js → Every IsJudgedIn js
   all_judged_known chosen js h = all_judged_in [] (run_among chosen (stated_in (resolved text).items)) js tt (run_lemmas chosen) h
 
-  pub all_judged_right : (chosen : Option (List ℕ)) (js : List Judged) → AreJudged (setting_of theory) [] (run_among chosen (stated_in (resolved text).items)) js → Every (JudgedRightly theory) js
-  all_judged_right chosen js h = every_weaken IsJudgedIn (JudgedRightly theory) judged_right js (all_judged_known chosen js h)
+  pub all_judged_right : (chosen : Option (List ℕ)) (js : List Judged) → AreJudged (setting_of text) [] (run_among chosen (stated_in (resolved text).items)) js → Every (JudgedRightly text) js
+  all_judged_right chosen js h = every_weaken IsJudgedIn (JudgedRightly text) judged_right js (all_judged_known chosen js h)
 
   -- ---- lemmas that are tried
 
@@ -215,7 +215,7 @@ module _ {bytes : List ℕ} (text : WrittenText) (posing : Poses bytes text) whe
     pub stated : Stated
     pub right : AreTakenRightly theory taken
     pub is_lemma : IsLemmaOf theory stated.lemma
-    pub is_outcome : IsOutcome (setting_of theory) budget taken stated o
+    pub is_outcome : IsOutcome (setting_of text) budget taken stated o
 
   module _ (budget : ℕ) where
     grown_accepted : (o : Outcome) (h : IsTriedIn budget o) → let q = h.stated in
@@ -227,7 +227,7 @@ module _ {bytes : List ℕ} (text : WrittenText) (posing : Poses bytes text) whe
         subst (IsAccepted c s) (sym h.is_outcome.tree_is) (grown_tree_accepted c s budget)
 
     all_tried_in : (taken : List Taken) (qs : List Stated) (os : List Outcome) → AreTakenRightly theory taken → Every (IsLemmaOf theory) (lemmas_stated qs)
-        → AreOutcomes (setting_of theory) budget taken qs os → Every (IsTriedIn budget) os
+        → AreOutcomes (setting_of text) budget taken qs os → Every (IsTriedIn budget) os
     all_tried_in taken [] [] right f h = tt
     all_tried_in taken [] (o ∷ os) right f h = absurd h
     all_tried_in taken (q ∷ qs) [] right f h = absurd h
@@ -247,16 +247,16 @@ module _ {bytes : List ℕ} (text : WrittenText) (posing : Poses bytes text) whe
         (shown q.lemma h.is_lemma k.form k.form_is q.attributes h.taken h.right q.lemma.kind o.verdict o.log o.tree (grown_accepted o h)
         (k.log_is ∙ ap (found_log (context q.attributes h.taken q.lemma.kind k.form) (root_system (root q.attributes h.taken q.lemma.kind k.form))) (sym k.tree_is)) k.verdict_is)
 
-    pub all_tried : (chosen : Option (List ℕ)) (os : List Outcome) → AreOutcomes (setting_of theory) budget [] (run_among chosen (stated_in (resolved text).items)) os → Every (IsTriedIn budget) os
+    pub all_tried : (chosen : Option (List ℕ)) (os : List Outcome) → AreOutcomes (setting_of text) budget [] (run_among chosen (stated_in (resolved text).items)) os → Every (IsTriedIn budget) os
     all_tried chosen os h = all_tried_in [] (run_among chosen (stated_in (resolved text).items)) os tt (run_lemmas chosen) h
 
-    pub outcomes_right : (chosen : Option (List ℕ)) (os : List Outcome) → AreOutcomes (setting_of theory) budget [] (run_among chosen (stated_in (resolved text).items)) os
+    pub outcomes_right : (chosen : Option (List ℕ)) (os : List Outcome) → AreOutcomes (setting_of text) budget [] (run_among chosen (stated_in (resolved text).items)) os
         → Every (λ (o : Outcome). Means (theory_of theory) o.lemma.kind o.verdict o.log o.lemma) os
     outcomes_right chosen os h = every_weaken (IsTriedIn budget) _ outcome_right os (all_tried chosen os h)
 
 pub verdicts_are_right_lem : VerdictsAreRight
 verdicts_are_right_lem = record {
   right = λ budget chosen text written outcomes a. outcomes_right a.theory a.poses budget chosen outcomes a.outcomes_are;
-  spent = λ budget chosen text written outcomes a. all_spent (setting_of (theory_in a.theory)) budget [] (run_among chosen (stated_in (resolved a.theory).items)) outcomes a.outcomes_are;
+  spent = λ budget chosen text written outcomes a. all_spent (setting_of a.theory) budget [] (run_among chosen (stated_in (resolved a.theory).items)) outcomes a.outcomes_are;
   judged_right = λ chosen text written judged c. all_judged_right c.theory c.poses chosen judged c.judged_are;
 }

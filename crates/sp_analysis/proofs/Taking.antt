@@ -87,7 +87,7 @@ module _ {bytes : List ℕ} (text : WrittenText) (posing : Poses bytes text) whe
   signature = signature_of (theory_of theory)
 
   abbrev setting : Setting
-  setting = setting_of theory
+  setting = setting_of text
 
   pub searched : IsSearched theory
   searched = record {

@@ -75,7 +75,7 @@ pub record IsAnalysis (budget : ℕ) (chosen : Option (List ℕ)) (text written 
   pub theory : WrittenText
   pub poses : Poses text theory
   pub has : has_lemma chosen (stated_in (resolved theory).items) ≡ true
-  pub outcomes_are : AreOutcomes (setting_of (theory_in theory)) budget [] (run_among chosen (stated_in (resolved theory).items)) outcomes
+  pub outcomes_are : AreOutcomes (setting_of theory) budget [] (run_among chosen (stated_in (resolved theory).items)) outcomes
   pub places : Every (λ (o : Outcome). HavePlaces o.tree) outcomes
   pub numbers : Every (λ (o : Outcome). IsNumbered (theory_of (theory_in theory)) o.lemma o.log) outcomes
   pub spans : List Span

@@ -83,6 +83,6 @@ pub record IsChecking (chosen : Option (List ℕ)) (text written : List ℕ) (ju
   pub theory : WrittenText
   pub poses : Poses text theory
   pub has : has_lemma chosen (stated_in (resolved theory).items) ≡ true
-  pub judged_are : AreJudged (setting_of (theory_in theory)) [] (run_among chosen (stated_in (resolved theory).items)) judged
+  pub judged_are : AreJudged (setting_of theory) [] (run_among chosen (stated_in (resolved theory).items)) judged
   pub numbers : Every (λ (j : Judged). IsNumbered (theory_of (theory_in theory)) j.lemma j.log) judged
   pub written_is : written ≡ checked_text (theory_of (theory_in theory)) judged

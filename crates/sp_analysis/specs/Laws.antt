@@ -48,9 +48,9 @@ IsRejected verdict = (step : ℕ) × (clause : Clause) × (verdict ≡ rejected 
 
 -- What is said of a lemma whose proof was checked is so, and its proof is accepted exactly where it isn't rejected: each step is a move,
 -- and an instance of it, and has its cases, by name and in order.
-pub record JudgedRightly (theory : WrittenTheory) (j : Judged) : Type 0 where
-  pub means : Means (theory_of theory) j.lemma.kind j.verdict j.log j.lemma
-  pub accepts : (IsRejected j.verdict → ⊥) ↔ ReadIsAccepted (context_of (setting_of theory) j.root) (root_system j.root) j.proof
+pub record JudgedRightly (text : WrittenText) (j : Judged) : Type 0 where
+  pub means : Means (theory_of (theory_in text)) j.lemma.kind j.verdict j.log j.lemma
+  pub accepts : (IsRejected j.verdict → ⊥) ↔ ReadIsAccepted (context_of (setting_of text) j.root) (root_system j.root) j.proof
 
 -- An incomplete analysis has made each of the moves that it may.
 pub record IsSpent (budget : ℕ) (o : Outcome) : Type 0 where
@@ -62,7 +62,7 @@ pub record VerdictsAreRight : Type 0 where
       → Every (λ (o : Outcome). Means (theory_of (theory_in a.theory)) o.lemma.kind o.verdict o.log o.lemma) outcomes
   pub spent : (budget : ℕ) (chosen : Option (List ℕ)) (text written : List ℕ) (outcomes : List Outcome) → IsAnalysis budget chosen text written outcomes → Every (IsSpent budget) outcomes
   pub judged_right : (chosen : Option (List ℕ)) (text written : List ℕ) (judged : List Judged) (c : IsChecking chosen text written judged)
-      → Every (JudgedRightly (theory_in c.theory)) judged
+      → Every (JudgedRightly c.theory) judged
 
 -- Of a text one thing is written, by each command and budget, and of each lemma or of the one that is named; and only one of four things comes of it: it is refused, reported on, or done
 -- with, or lacks the lemma that is named.

@@ -1,6 +1,6 @@
 -- What a proof is to show, what it begins with, what it is made in, and the proof tree that is grown for it. Source: Tamarin manual, "Lemma
--- Annotations" (`use_induction`, `sources`).
-use Rattle.std.specs.Prelude.{List, ℕ, Bool, true, false, Option, None, Some, []}
+-- Annotations" (`use_induction`, `sources`) and "Heuristics".
+use Rattle.std.specs.Prelude.{List, ℕ, ◌==◌, Bool, true, false, Option, None, Some, [], ◌∷◌}
 use Rattle.std.specs.List.{list_any}
 use Rattle.sp_spec.specs.Signature.{Signature}
 use Rattle.sp_spec.specs.Theory.{TraceKind, all_traces, exists_trace, signature_of}
@@ -10,7 +10,9 @@ use Rattle.sp_spec.specs.Log.{Log}
 use Rattle.sp_law_guard.specs.GuardedForm.{negate}
 use Rattle.sp_law_basic.specs.Restrictions.{restriction_forms}
 use Rattle.sp_law_inductive.specs.Cases.{cases_of}
-use Rattle.sp_spec_text.specs.Written.{Attribute, of_sources, by_induction}
+use Rattle.sp_spec_text.specs.Written.{Attribute, of_sources, by_induction, ranked_by, WrittenText}
+use Rattle.sp_spec_text.specs.Declared.{resolved, theory_in}
+use Rattle.sp_pose.specs.Ranking.{rankings_in}
 use Rattle.sp_spec_system.specs.Move.{InductionCases, Root, root_system, asked_formulas, Context}
 use Rattle.sp_spec_proof.specs.Tree.{Tree, found_log}
 use Rattle.sp_spec_proof.specs.Growth.{grown_tree}
@@ -30,20 +32,25 @@ sought all_traces g = negate g
 sought exists_trace g = g
 
 -- what the proofs of a theory's lemmas have in common: its signature, its rules with their forms, the public names that stand in it, and the guarded forms of its
--- restrictions
+-- restrictions, and how the text asks that its proofs are ranked
 pub record Setting : Type 0 where
   pub signature : Signature
   pub forms : List RuleForms
   pub constants : List (List ℕ)
   pub restrictions : List Guarded
+  pub ranking : List Attribute
 
-abbrev pub setting_of : WrittenTheory → Setting
-setting_of theory = record {
+abbrev pub setting_by : WrittenTheory → List Attribute → Setting
+setting_by theory ranking = record {
   signature = signature_of (theory_of theory);
   forms = (rules_of (theory_of theory)).forms;
   constants = constants_of theory;
   restrictions = restriction_forms theory.restrictions;
+  ranking = ranking;
 }
+
+abbrev pub setting_of : WrittenText → Setting
+setting_of text = setting_by (theory_in text) (rankings_in (resolved text).items)
 
 -- a lemma with this attribute is to be proved by induction
 abbrev pub marks_induction : Attribute → Bool
@@ -56,26 +63,41 @@ abbrev pub begins_by : TraceKind → List Attribute → Bool
 begins_by all_traces attributes = list_any marks_induction attributes
 begins_by exists_trace attributes = false
 
+-- a word asks that kinds of moves on premises and messages count as one where it begins with a small `c`
+abbrev pub asks_consecutive : List ℕ → Bool
+asks_consecutive [] = false
+asks_consecutive (b ∷ w) = b == 99
+
+-- this attribute asks, or it doesn't ask, or leaves what was asked before
+abbrev pub asked_by : Attribute → Bool → Bool
+asked_by (ranked_by w) before = asks_consecutive w
+asked_by a before = before
+
+-- what the last `heuristic=` of these asks counts
+abbrev pub is_consecutive : Bool → List Attribute → Bool
+is_consecutive before [] = before
+is_consecutive before (a ∷ attributes) = is_consecutive (asked_by a before) attributes
+
 -- The cases of the induction, of a lemma on all traces; one on some trace has none.
 abbrev pub cases_for : List Guarded → List Guarded → TraceKind → Guarded → Option InductionCases
 cases_for restrictions taken all_traces form = Some (cases_of restrictions taken form)
 cases_for restrictions taken exists_trace form = None
 
--- What a proof of a lemma of this guarded form begins from: from the restrictions, from what is taken and from what is sought. Its kinds of moves are ranked one
--- by one.
-abbrev pub root_with : List Guarded → List Guarded → Bool → TraceKind → Guarded → Root
-root_with restrictions taken begins kind form = record {
+-- What a proof of a lemma of this guarded form begins from: from the restrictions, from what is taken and from what is sought.
+abbrev pub root_with : List Guarded → List Guarded → Bool → Bool → TraceKind → Guarded → Root
+root_with restrictions taken begins consecutive kind form = record {
   restrictions = restrictions;
   taken = taken;
   sought = sought kind form;
   begins_with_induction = begins;
-  consecutive = false;
+  consecutive = consecutive;
   cases = cases_for restrictions taken kind form;
 }
 
--- so of a lemma with these attributes, which say what it hides of what was given, and whether its proof begins with induction
+-- so of a lemma with these attributes, which say what it hides of what was given, whether its proof begins with induction, and, before what the text says of all its lemmas, how its moves are ranked
 abbrev pub root_of : Setting → List Attribute → List Taken → TraceKind → Guarded → Root
-root_of setting attributes taken kind form = root_with setting.restrictions (taken_for attributes taken) (begins_by kind attributes) kind form
+root_of setting attributes taken kind form =
+    root_with setting.restrictions (taken_for attributes taken) (begins_by kind attributes) (is_consecutive (is_consecutive false setting.ranking) attributes) kind form
 
 -- the steps that a log stands for
 abbrev pub executed : Setting → Log → List Step

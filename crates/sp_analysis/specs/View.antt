@@ -1,8 +1,9 @@
 -- The verdicts, settings, taken lemmas and roots that those in memory stand for.
-use Rattle.std.specs.Prelude.{map, false, option_map}
+use Rattle.std.specs.Prelude.{map, option_map}
 use Rattle.sp_term.specs.View.{name_of}
 use Rattle.sp_fact.specs.GroundView.{signature_of}
 use Rattle.sp_book.specs.BookView.{book_of}
+use Rattle.sp_written.specs.Views as view
 use Rattle.sp_check.specs.View.{clause_of}
 use Rattle.sp_formula.specs.FormulaView.{formula_of}
 use Rattle.sp_spec_system.specs.Move.{InductionCases, Root}
@@ -28,6 +29,7 @@ setting_in s = record {
   forms = book_of s.book;
   constants = map name_of s.constants.items;
   restrictions = map formula_of s.restrictions.items;
+  ranking = view.attributes s.ranking.items;
 }
 
 -- a lemma that is taken
@@ -45,6 +47,6 @@ begun_from setting b = record {
   taken = map formula_of b.taken.items;
   sought = formula_of b.sought;
   begins_with_induction = b.by_induction;
-  consecutive = false;
+  consecutive = b.consecutive;
   cases = option_map cases_in b.cases;
 }

@@ -29,6 +29,8 @@ pub struct Beginning {
     sought: Formula,
     /// whether the first move is to be `induction`
     by_induction: bool,
+    /// whether the kinds of moves on premises and messages count as one
+    consecutive: bool,
     /// the cases of the induction, of a lemma on all traces
     cases: Option<Cases>,
 }
@@ -63,6 +65,37 @@ fn begins_by(kind: TraceKind, attributes: &Vec<Attribute>) -> bool
         TraceKind::AllTraces => is_inductive(attributes),
         TraceKind::ExistsTrace => false,
     }
+}
+
+/// Whether the word asks that kinds of moves on premises and messages count as one.
+fn asks_consecutive(word: &str) -> bool
+    ensures { result ≡ spec.asks_consecutive word.now }
+{
+    match word.as_bytes().first() {
+        Some(byte) => *byte == b'c',
+        None => false,
+    }
+}
+
+/// What is asked once the attribute has been read.
+fn asked_by(attribute: &Attribute, before: bool) -> bool
+    ensures { result ≡ spec.asked_by (view.attribute attribute.now) before }
+{
+    match attribute {
+        Attribute::RankedBy(word) => asks_consecutive(word),
+        _ => before,
+    }
+}
+
+/// What is asked once these have been read.
+fn is_consecutive(before: bool, attributes: &Vec<Attribute>) -> bool
+    ensures { result ≡ spec.is_consecutive before (view.attributes attributes.now.items) }
+{
+    let mut asked = before;
+    for attribute in attributes {
+        asked = asked_by(attribute, asked);
+    }
+    asked
 }
 
 /// What a proof of a lemma of this kind looks for, by its guarded form.
@@ -111,6 +144,8 @@ pub fn beginning_of(
     let taken = taken_for(alloc, &lemma.attributes, taken)?;
     let sought = sought(alloc, lemma.kind, &lemma.form)?;
     let by_induction = begins_by(lemma.kind, &lemma.attributes);
+    let of_text = is_consecutive(false, &setting.ranking);
+    let consecutive = is_consecutive(of_text, &lemma.attributes);
     let cases = cases_for(
         alloc,
         &setting.restrictions,
@@ -122,6 +157,7 @@ pub fn beginning_of(
         taken,
         sought,
         by_induction,
+        consecutive,
         cases,
     })
 }
@@ -149,6 +185,7 @@ impl Beginning {
             taken: &self.taken,
             sought: &self.sought,
             begins_with_induction: self.by_induction,
+            consecutive: self.consecutive,
             cases: borrowed(&self.cases),
         }
     }

@@ -104,6 +104,7 @@ fn done(
         constants,
         restrictions,
         lemmas,
+        ranking,
         behind_end,
     } = problem;
     let restrictions = their_forms(alloc, restrictions)?;
@@ -113,6 +114,7 @@ fn done(
         book,
         constants,
         restrictions,
+        ranking,
     };
     let tried = all_tried(alloc, command, &setting, &to_run)?;
     answered_by(alloc, command, text, &tried, behind_end)

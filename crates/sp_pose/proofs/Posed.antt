@@ -35,6 +35,7 @@ use Rattle.sp_pose.specs.Reviewed.{warned, IsReviewOf}
 use Rattle.sp_pose.specs.declared.examined.SaidTheory.{SaidTheory}
 use Rattle.sp_pose.specs.declared.review.Review.{Review}
 use Rattle.sp_pose.specs.Required.{all_required}
+use Rattle.sp_pose.specs.Ranking.{rankings_in}
 use Rattle.sp_pose.specs.Asked.{Asked, asked_with, lemmas_read, all_asked}
 use Rattle.sp_pose.specs.Posed.{IsMadeOf, IsPosedBy}
 use Rattle.sp_pose.specs.declared.problem.Problem.{Problem}
@@ -132,6 +133,7 @@ made {text = text} e x s p posing over h =
       constants_are = h.constants_are ∙ theory_constants t (view.items theory.items.items) items;
       restrictions_are = h.restrictions_are ∙ ap (λ (xs : List written.Item). all_required (restrictions_in xs)) items;
       lemmas_are = h.lemmas_are;
+      ranking_is = h.ranking_is ∙ ap rankings_in items;
       places_are = subst (ArePlaces text t (view.spans theory.items.items)) (sym h.end_is) x.places_are;
       rise = subst (Rise text 0 (view.spans theory.items.items)) (sym h.end_is) x.rise;
       within = subst (λ (n : ℕ). n ≤ length text) (sym h.end_is) x.within;

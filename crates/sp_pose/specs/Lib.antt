@@ -1,4 +1,5 @@
 pub mod Problem
+pub mod Ranking
 pub mod Required
 pub mod Asked
 pub mod Posed

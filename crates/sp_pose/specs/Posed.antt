@@ -17,6 +17,7 @@ use Rattle.sp_spec_text.specs.Spans.{Rise}
 use Rattle.sp_spec_text.specs.Texts.{ArePlaces}
 use Rattle.sp_place.specs.Refused.{IsRefusedAt}
 use Rattle.sp_pose.specs.Problem.{Poses, IsReported}
+use Rattle.sp_pose.specs.Ranking.{rankings_in}
 use Rattle.sp_pose.specs.Required.{required_of, all_required}
 use Rattle.sp_pose.specs.Asked.{asked_of, lemmas_read, all_asked}
 use Rattle.sp_pose.specs.declared.problem.Problem.{Problem}
@@ -30,6 +31,7 @@ pub record IsMadeOf (s : Signature) (theory : ReadTheory) (p : Problem) : Type 0
   pub constants_are : map name_of p.constants.items ≡ constants_in (view.items theory.items.items)
   pub restrictions_are : map required_of p.restrictions.items ≡ all_required (restrictions_in (view.items theory.items.items))
   pub lemmas_are : all_asked (lemmas_read theory.items.items) ≡ Some (map asked_of p.lemmas.items)
+  pub ranking_is : view.attributes p.ranking.items ≡ rankings_in (view.items theory.items.items)
   pub end_is : p.behind_end ≡ theory.behind_end
 
 -- It is what the text poses: the signature, the rules and the public names of the theory that the text says, its restrictions and its lemmas with their guarded forms. The
@@ -44,6 +46,7 @@ pub record IsPosedBy (text : List ℕ) (p : Problem) : Type 0 where
   pub constants_are : map name_of p.constants.items ≡ constants_of (theory_in said)
   pub restrictions_are : map required_of p.restrictions.items ≡ all_required (theory_in said).restrictions
   pub lemmas_are : all_asked (lemmas_read theory.items.items) ≡ Some (map asked_of p.lemmas.items)
+  pub ranking_is : view.attributes p.ranking.items ≡ rankings_in (resolved said).items
   pub places_are : ArePlaces text said (view.spans theory.items.items) p.behind_end
   pub rise : Rise text 0 (view.spans theory.items.items) p.behind_end
   pub within : p.behind_end ≤ length text

@@ -10,6 +10,7 @@ ghost use Rattle.sp_formula.specs.FormulaView.{formula_of};
 ghost use Rattle.sp_law_guard.specs.CheckedForm as guard;
 ghost use Rattle.sp_read_parts.specs.Formulas.{formula};
 ghost use Rattle.sp_pose.specs.Asked.{asked_of, asked_with, asked_then, lemmas_read, all_asked};
+ghost use Rattle.sp_pose.specs.Ranking.{first_ranking, item_ranking, rankings_in};
 ghost use Rattle.sp_pose.specs.Required.{required_of, required_by, all_required};
 ghost use Rattle.sp_fact.specs.GroundView.{signature_of};
 ghost use Rattle.sp_wf.specs.Report.{text_of};
@@ -74,6 +75,8 @@ pub struct Problem<'a> {
     pub restrictions: Vec<GuardedRestriction<'a>>,
     /// its lemmas, with their guarded forms
     pub lemmas: Vec<GuardedLemma<'a>>,
+    /// how it asks that their proofs are ranked, as a lemma's own attributes do
+    pub ranking: Vec<Attribute<'a>>,
     /// the place behind its word `end`
     pub behind_end: usize,
 }
@@ -279,6 +282,40 @@ fn lemmas_in<'a>(
     guarded_lemmas(alloc, lemmas)
 }
 
+/// Puts the first of the words at the end, as a lemma's own attribute says it.
+fn push_first<'a>(ranking: &mut Vec<Attribute<'a>>, words: &Vec<&'a str>) -> Result<(), AllocError>
+    ensures { OnOk result (view.attributes ranking.new.items ≡ view.attributes ranking.old.items ++ first_ranking (map (λ w. w.now) words.now.items)) }
+{
+    match words.first() {
+        Some(word) => {
+            ranking.push(Attribute::RankedBy(*word))?;
+            Ok(())
+        }
+        None => Ok(()),
+    }
+}
+
+/// The same, if the item is a heuristic.
+fn push_ranking<'a>(ranking: &mut Vec<Attribute<'a>>, item: &Item<'a>) -> Result<(), AllocError>
+    ensures { OnOk result (view.attributes ranking.new.items ≡ view.attributes ranking.old.items ++ item_ranking (view.item item.now)) }
+{
+    match item {
+        Item::Heuristic(words) => push_first(ranking, words),
+        _ => Ok(()),
+    }
+}
+
+/// How the items ask that the lemmas' proofs are ranked.
+fn ranking_of<'a>(alloc: Global, items: &Vec<Item<'a>>) -> Result<Vec<Attribute<'a>>, AllocError>
+    ensures { IfOk result (λ xs. view.attributes xs.items ≡ rankings_in (view.items items.now.items)) }
+{
+    let mut ranking = Vec::new(alloc);
+    for item in items {
+        push_ranking(&mut ranking, item)?;
+    }
+    Ok(ranking)
+}
+
 /// What a text poses, of its theory with what its names stand for; none where a lemma has no guarded form.
 fn posed<'a>(
     alloc: Global,
@@ -290,6 +327,7 @@ fn posed<'a>(
     let rules = rules_of(alloc, &theory.items)?;
     let constants = constants(alloc, &theory)?;
     let restrictions = restrictions_of(alloc, &theory.items)?;
+    let ranking = ranking_of(alloc, &theory.items)?;
     let behind_end = theory.behind_end;
     let Some(lemmas) = lemmas_in(alloc, theory.items)? else {
         return Ok(None);
@@ -300,6 +338,7 @@ fn posed<'a>(
         constants,
         restrictions,
         lemmas,
+        ranking,
         behind_end,
     }))
 }

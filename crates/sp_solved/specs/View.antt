@@ -1,5 +1,5 @@
--- What a proof begins from, as it stands in memory: its kinds of moves are ranked one by one.
-use Rattle.std.specs.Prelude.{map, false, option_map}
+-- What a proof begins from, as it stands in memory.
+use Rattle.std.specs.Prelude.{map, option_map}
 use Rattle.sp_formula.specs.FormulaView.{formula_of}
 use Rattle.sp_spec_system.specs.Move as spec
 use Rattle.sp_solved.specs.declared.root.InductionCases.{InductionCases}
@@ -15,6 +15,6 @@ root_of r = record {
   taken = map formula_of r.taken.now.items;
   sought = formula_of r.sought.now;
   begins_with_induction = r.begins_with_induction;
-  consecutive = false;
+  consecutive = r.consecutive;
   cases = option_map cases_of r.cases;
 }

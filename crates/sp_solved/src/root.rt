@@ -28,6 +28,8 @@ pub struct Root<'a> {
     pub sought: &'a Formula,
     /// whether its first move is to be `induction`
     pub begins_with_induction: bool,
+    /// whether the kinds of moves on premises and messages count as one
+    pub consecutive: bool,
     /// the cases of its induction, which a lemma on all traces may have
     pub cases: Option<InductionCases<'a>>,
 }

@@ -1,40 +1,33 @@
--- The kinds of moves, one after the other: the first that answers tells the choice. And the moves of a kind, one after the other.
+-- The kinds of moves, one after the other: the first that answers tells the choice. And the moves at formulas, one after the other.
 use Rattle.std.proofs.Common.{◌≡◌, ℕ, ◌+◌, ◌<◌, Bool, true, false, List, [], ◌∷◌, ◌++◌, length, map, drop, get_or, Option, Some, None, refl, sym, ap, ◌∙◌, add-one, slice_get, suc, option_and_then, true≢false}
-use Rattle.std.specs.Prelude.{is_some, not, option_map, if◌then◌else◌, ◌&&◌, ◌||◌, flat_map}
+use Rattle.std.specs.Prelude.{is_some, not, option_map, if◌then◌else◌, ◌&&◌, ◌||◌}
 use Rattle.std.specs.Option.{option_or}
 use Rattle.std.specs.List.{list_any}
-use Rattle.std.proofs.lemmas.List.Folds.{find-append}
 use Rattle.std.proofs.lemmas.Option.{slice_get-map, slice_get-get_or}
 use Rattle.sp_spec.specs.Guarded.{Guarded}
-use Rattle.sp_spec.specs.Term.{Variable}
-use Rattle.sp_spec.specs.Rule.{Fact}
 use Rattle.sp_spec.proofs.Lists.{next_item}
-use Rattle.sp_spec_system.specs.System.{System, Event}
+use Rattle.sp_spec_system.specs.System.{System}
 use Rattle.sp_spec_system.specs.Picked.{first_some}
 use Rattle.sp_spec_system.proofs.Picked.{first_some_append}
 use Rattle.sp_spec_system.specs.Rules.{Rules}
-use Rattle.sp_system.specs.SystemView.{event_of}
-use Rattle.sp_system.specs.declared.event.Event as memory
 use Rattle.sp_formula.specs.FormulaView.{formula_of}
 use Rattle.sp_formula.specs.declared.formula.Formula.{Formula}
-use Rattle.sp_spec_system.specs.Move.{Move, simplify, contradiction, solved, or, action, premise, know, chain, more_events, finish, Context, Case, end_log}
+use Rattle.sp_spec_system.specs.Move.{Move, simplify, contradiction, solved, or, action, more_events, finish, Context, Case, end_log}
 use Rattle.sp_spec_proof.specs.Cases.{simple_case}
 use Rattle.sp_spec_proof.specs.Rows.{rows, by_rows, failing_row, is_contradictory, fails_somewhere}
 use Rattle.sp_spec_proof.proofs.Contradictions.{one_holds}
 use Rattle.sp_spec_proof.specs.Choice.{Ranked, with_rank, is_instance, first_instance, picked, choice}
 use Rattle.sp_spec_proof.specs.Kinds.{Picker, of_rank, only, event_pickers, deciding_pickers, pickers_by, first_pickers, last_picker, are_consecutive}
-use Rattle.sp_spec_proof.specs.Kinds.{places_from, at_each_formula, at_each_event, premises_of, at_message, passed_last, no_message_variable, is_fresh_variable, is_application}
+use Rattle.sp_spec_proof.specs.Kinds.{places_from, at_each_formula}
 use Rattle.sp_spec_proof.specs.Finish.{has_instance}
 use Rattle.sp_spec_proof.proofs.Progress.{none_left}
-use Rattle.sp_spec_graph.specs.More.{more_cases}
 use Rattle.sp_spec_formula.specs.Action.{solving_action}
 use Rattle.sp_spec_formula.specs.Or.{disjunction_at, or_cases}
-use Rattle.sp_spec_graph.specs.Premise.{open_premise, premise_cases}
-use Rattle.sp_spec_know.specs.Know.{learnt_anyhow, is_message_variable}
 use Rattle.sp_moves_formula.specs.Parts.{disjuncts, by_parts}
 use Rattle.sp_moves_formula.proofs.Parts.{parts_at}
 use Rattle.sp_step.specs.declared.choose.MoveKind.{MoveKind}
 use Rattle.sp_step.specs.declared.choose.MoveKind.TheVariants as kind
+use Rattle.sp_step.specs.declared.events.EventKind.TheVariants as event
 use Rattle.sp_step.specs.declared.learning.LearningKind.TheVariants as learning
 use Rattle.sp_step.specs.Choosing.{if_so, answer, by_kinds, last_of_all}
 
@@ -47,12 +40,20 @@ kinds =
     ∷ (3, kind.Solved)
     ∷ (4, kind.Or)
     ∷ (5, kind.Action)
-    ∷ (6, kind.Learning learning.Chain)
-    ∷ (7, kind.Premise)
-    ∷ (8, kind.Learning learning.Fresh)
-    ∷ (9, kind.Learning learning.Application)
-    ∷ (10, kind.Learning learning.VariableChain)
     ∷ []
+
+-- those at events, one after the other, and as one
+abbrev one_by_one : List (ℕ × MoveKind)
+one_by_one =
+    (6, kind.AtEvent (event.Learning learning.Chain))
+    ∷ (7, kind.AtEvent event.Premise)
+    ∷ (8, kind.AtEvent (event.Learning learning.Fresh))
+    ∷ (9, kind.AtEvent (event.Learning learning.Application))
+    ∷ (10, kind.AtEvent (event.Learning learning.VariableChain))
+    ∷ []
+
+abbrev consecutive : List (ℕ × MoveKind)
+consecutive = (6, kind.AtAnyEvent) ∷ []
 
 abbrev deciding : List (ℕ × MoveKind)
 deciding =
@@ -63,15 +64,15 @@ deciding =
     ∷ (15, kind.Top)
     ∷ []
 
--- the kinds before those that decide
-abbrev before_deciding : List Picker
-before_deciding =
+-- the kinds before those at events
+abbrev before_events : List Picker
+before_events =
     of_rank 1 (only contradiction)
     ∷ of_rank 2 (only simplify)
     ∷ of_rank 3 (only solved)
     ∷ of_rank 4 (at_each_formula or)
     ∷ of_rank 5 (at_each_formula action)
-    ∷ event_pickers false
+    ∷ []
 
 -- a place at which a row fails is a contradiction
 fails_contradicts : (rules : Rules) (s : System) → fails_somewhere s ≡ true → is_contradictory rules s ≡ true
@@ -95,17 +96,18 @@ by_tests rules false false true ends case later h = absurd (true≢false (sym (h
 by_tests rules false false false true case later h = refl
 by_tests rules false false false false case later h = refl
 
-each_kind : (context : Context) (s : System) → first_some (answer context s) kinds ≡ first_some (picked context s) before_deciding
+each_kind : (context : Context) (s : System) → first_some (answer context s) kinds ≡ first_some (picked context s) before_events
 each_kind context s =
     by_tests context.rules (is_contradictory context.rules s) (is_some (by_rows context.rules rows s)) (fails_somewhere s) (is_some (end_log context s)) (record { name = []; system = s })
     (option_or (option_map (with_rank 4) (first_instance context s (at_each_formula or context s)))
-    (option_or (option_map (with_rank 5) (first_instance context s (at_each_formula action context s)))
-    (option_or (option_map (with_rank 6) (first_instance context s (at_each_event (at_message chain passed_last no_message_variable) context s)))
-    (option_or (option_map (with_rank 7) (first_instance context s (at_each_event premises_of context s)))
-    (option_or (option_map (with_rank 8) (first_instance context s (at_each_event (at_message know learnt_anyhow is_fresh_variable) context s)))
-    (option_or (option_map (with_rank 9) (first_instance context s (at_each_event (at_message know learnt_anyhow is_application) context s)))
-    (option_or (option_map (with_rank 10) (first_instance context s (at_each_event (at_message chain passed_last is_message_variable) context s))) None)))))))
+    (option_or (option_map (with_rank 5) (first_instance context s (at_each_formula action context s))) None))
     (fails_contradicts context.rules s)
+
+pub one_by_one_are : (context : Context) (s : System) → first_some (answer context s) one_by_one ≡ first_some (picked context s) (event_pickers false)
+one_by_one_are context s = refl
+
+pub consecutive_are : (context : Context) (s : System) → first_some (answer context s) consecutive ≡ first_some (picked context s) (event_pickers true)
+consecutive_are context s = refl
 
 by_closed : (rules : Rules) (closed : Bool) (cs : List Case) → if_so (not closed) more_events
     ≡ first_if (counts rules (let r : Option (List Case) = if closed then None else Some cs in r)) more_events
@@ -120,22 +122,34 @@ each_deciding context s =
     ap (λ (o : Option Move). option_or (answer context s (11, kind.ToldComparison)) (option_or (answer context s (12, kind.Comparison))
     (option_or (answer context s (13, kind.Same)) (option_or (option_map (with_rank 14) o) (option_or (answer context s (15, kind.Top)) None))))) (more_is context s)
 
--- a context in memory isn't consecutive
-answers_are : (context : Context) (s : System) → are_consecutive context.root ≡ false
-    → option_or (first_some (answer context s) kinds) (first_some (answer context s) deciding) ≡ by_kinds context s
+-- what the kinds at events answer
+abbrev at_events : Context → System → Option Ranked
+at_events context s = first_some (picked context s) (event_pickers (are_consecutive context.root))
+
+answers_are : (context : Context) (s : System)
+    → option_or (first_some (answer context s) kinds) (option_or (at_events context s) (first_some (answer context s) deciding)) ≡ by_kinds context s
 unfolding by_kinds
-answers_are context s apart =
-    ap (λ (o : Option Ranked). option_or o (first_some (answer context s) deciding)) (each_kind context s)
-    ∙ ap (option_or (first_some (picked context s) before_deciding)) (each_deciding context s)
-    ∙ sym (first_some_append (picked context s) before_deciding deciding_pickers)
-    ∙ ap (λ (b : Bool). first_some (picked context s) (pickers_by b)) (sym apart)
+answers_are context s =
+    let all = event_pickers (are_consecutive context.root) in
+    ap (λ (o : Option Ranked). option_or o (option_or (at_events context s) (first_some (answer context s) deciding))) (each_kind context s)
+    ∙ ap (λ (o : Option Ranked). option_or (first_some (picked context s) before_events) (option_or (at_events context s) o)) (each_deciding context s)
+    ∙ ap (option_or (first_some (picked context s) before_events)) (sym (first_some_append (picked context s) all deciding_pickers))
+    ∙ sym (first_some_append (picked context s) before_events (all ++ deciding_pickers))
 
-pub answered_first : (context : Context) (s : System) (r : Ranked) → are_consecutive context.root ≡ false → Some r ≡ first_some (answer context s) kinds → Some r ≡ by_kinds context s
-answered_first context s r apart is = ap (λ (o : Option Ranked). option_or o (first_some (answer context s) deciding)) is ∙ answers_are context s apart
+-- the first of the three that answers tells what is chosen
+pub answered_first : (context : Context) (s : System) (r : Ranked) → Some r ≡ first_some (answer context s) kinds → Some r ≡ by_kinds context s
+answered_first context s r is = ap (λ (o : Option Ranked). option_or o (option_or (at_events context s) (first_some (answer context s) deciding))) is ∙ answers_are context s
 
-pub answered_behind : (context : Context) (s : System) → are_consecutive context.root ≡ false → None ≡ first_some (answer context s) kinds
+behind_first : (context : Context) (s : System) → None ≡ first_some (answer context s) kinds
+    → option_or (at_events context s) (first_some (answer context s) deciding) ≡ by_kinds context s
+behind_first context s none = ap (λ (o : Option Ranked). option_or o (option_or (at_events context s) (first_some (answer context s) deciding))) none ∙ answers_are context s
+
+pub answered_at_events : (context : Context) (s : System) (r : Ranked) → None ≡ first_some (answer context s) kinds → Some r ≡ at_events context s → Some r ≡ by_kinds context s
+answered_at_events context s r none is = ap (λ (o : Option Ranked). option_or o (first_some (answer context s) deciding)) is ∙ behind_first context s none
+
+pub answered_behind : (context : Context) (s : System) → None ≡ first_some (answer context s) kinds → None ≡ at_events context s
     → first_some (answer context s) deciding ≡ by_kinds context s
-answered_behind context s apart none = ap (λ (o : Option Ranked). option_or o (first_some (answer context s) deciding)) none ∙ answers_are context s apart
+answered_behind context s none no_event = ap (λ (o : Option Ranked). option_or o (first_some (answer context s) deciding)) no_event ∙ behind_first context s none
 
 -- ---- the end of the search comes behind them
 
@@ -197,11 +211,6 @@ chosen_last context s begun none no_kind =
     ∙ ap (λ (o : Option Ranked). option_or o (first_some (picked context s) (last_picker ∷ []))) no_kind
     ∙ ap (λ (o : Option Ranked). option_or o (option_or (by_kinds context s) (first_some (picked context s) (last_picker ∷ [])))) none ∙ sym (in_three context s)
 
--- the kinds are gone over
-pub next_kind : (context : Context) (s : System) (all : List (ℕ × MoveKind)) (i : ℕ) (k : ℕ × MoveKind) → i < length all → k ≡ get_or all i k
-    → first_some (answer context s) (drop i all) ≡ option_or (answer context s k) (first_some (answer context s) (drop (i + 1) all))
-next_kind context s all i k below is = ap (first_some (answer context s)) (next_item all i k below is)
-
 -- ---- a move at each place
 
 pub next_place : {X A : Type 0} (context : Context) (s : System) (move : ℕ → Move) (view : X → A) (all : List X) (k : ℕ) (x : X) (b : Bool) → k < length all → x ≡ get_or all k x
@@ -230,19 +239,3 @@ part_here context s all k f b whole below is e =
     is_some_map (map (simple_case context.rules)) (or_cases s (disjunction_at k s.formulas)) ∙ ap is_some (parts_at s k)
     ∙ is_some_map (by_parts s k 1) (option_and_then disjuncts (slice_get s.formulas k))
     ∙ ap (λ (o : Option Guarded). is_some (option_and_then disjuncts o)) there ∙ sym e
-
-pub is_open : (context : Context) (s : System) (i p : ℕ) → is_instance context s (premise i p) ≡ is_some (open_premise s i p)
-is_open context s i p = is_some_map (map (simple_case context.rules)) (premise_cases context.rules.forms s i p (open_premise s i p)) ∙ each (open_premise s i p)
-  where
-    each : (o : Option (Fact Variable)) → is_some (premise_cases context.rules.forms s i p o) ≡ is_some o
-    each None = refl
-    each (Some f) = refl
-
--- ---- the moves at each event
-
-pub next_event : (context : Context) (s : System) (moves : Event → List Move) (all : List memory.Event) (k : ℕ) (e : memory.Event) → k < length all → e ≡ get_or all k e
-    → first_instance context s (flat_map moves (map event_of (drop k all)))
-    ≡ option_or (first_instance context s (moves (event_of e))) (first_instance context s (flat_map moves (map event_of (drop (k + 1) all))))
-next_event context s moves all k e below is =
-    ap (λ (es : List memory.Event). first_instance context s (flat_map moves (map event_of es))) (next_item all k e below is)
-    ∙ find-append (is_instance context s) (moves (event_of e)) (flat_map moves (map event_of (drop (k + 1) all)))

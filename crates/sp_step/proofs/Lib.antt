@@ -3,4 +3,5 @@ pub mod Kept
 pub mod Turns
 pub mod RowSearches
 pub mod Choosing
+pub mod EventMoves
 pub mod LearningMoves

@@ -9,12 +9,12 @@ use Rattle.sp_spec_proof.specs.Rows.{rows, by_rows, is_contradictory}
 use Rattle.sp_spec_proof.specs.Choice as choice
 use Rattle.sp_spec_proof.specs.Choice.{first_instance, with_rank, picked}
 use Rattle.sp_spec_proof.specs.Deciding.{told_comparisons, comparisons, sames, tops}
-use Rattle.sp_spec_proof.specs.Kinds.{at_each_formula, at_each_event, premises_of, are_consecutive, pickers_by}
+use Rattle.sp_spec_proof.specs.Kinds.{at_each_formula, at_each_event, all_at, event_kinds, are_consecutive, pickers_by}
 use Rattle.sp_step.specs.View.{move_of}
 use Rattle.sp_step.specs.declared.choose.Ranked.{Ranked}
 use Rattle.sp_step.specs.declared.choose.MoveKind.{MoveKind}
-use Rattle.sp_step.specs.declared.choose.MoveKind.TheVariants.{Contradiction, Simplify, Solved, Or, Action, Premise, Learning, ToldComparison, Comparison, Same, MoreEvents, Top}
-use Rattle.sp_step.specs.Learning.{each_move}
+use Rattle.sp_step.specs.declared.choose.MoveKind.TheVariants.{Contradiction, Simplify, Solved, Or, Action, AtEvent, AtAnyEvent, ToldComparison, Comparison, Same, MoreEvents, Top}
+use Rattle.sp_step.specs.Events.{moves_of}
 
 abbrev pub ranked_of : Ranked → choice.Ranked
 ranked_of r = with_rank r.rank (move_of r.chosen)
@@ -28,8 +28,8 @@ asked context s Simplify = if_so (is_some (by_rows context.rules rows s)) spec.s
 asked context s Solved = if_so (is_some (end_log context s)) spec.solved
 asked context s Or = first_instance context s (at_each_formula spec.or context s)
 asked context s Action = first_instance context s (at_each_formula spec.action context s)
-asked context s Premise = first_instance context s (at_each_event premises_of context s)
-asked context s (Learning kind) = first_instance context s (each_move kind s.events)
+asked context s (AtEvent kind) = first_instance context s (at_each_event (moves_of kind) context s)
+asked context s AtAnyEvent = first_instance context s (at_each_event (all_at event_kinds) context s)
 asked context s ToldComparison = first_instance context s (told_comparisons context s)
 asked context s Comparison = first_instance context s (comparisons context s)
 asked context s Same = first_instance context s (sames context s)

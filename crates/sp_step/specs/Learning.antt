@@ -1,5 +1,5 @@
 -- The kinds of moves on messages that are learnt, and their moves at an event.
-use Rattle.std.specs.Prelude.{List, [], ◌∷◌, flat_map, Option, None, Some}
+use Rattle.std.specs.Prelude.{List, [], ◌∷◌, Option, None, Some}
 use Rattle.sp_spec_system.specs.System.{Event}
 use Rattle.sp_spec_system.specs.Move as spec
 use Rattle.sp_spec_know.specs.Know.{learnt_anyhow, is_message_variable}
@@ -12,9 +12,6 @@ moves_at Chain e = at_message spec.chain passed_last no_message_variable e
 moves_at Fresh e = at_message spec.know learnt_anyhow is_fresh_variable e
 moves_at Application e = at_message spec.know learnt_anyhow is_application e
 moves_at VariableChain e = at_message spec.chain passed_last is_message_variable e
-
-abbrev pub each_move : LearningKind → List Event → List spec.Move
-each_move kind events = flat_map (moves_at kind) events
 
 -- the move, if there is one
 abbrev pub listed : Option spec.Move → List spec.Move

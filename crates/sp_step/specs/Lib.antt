@@ -6,3 +6,4 @@ pub mod WordsView
 pub mod Kept
 pub mod Choosing
 pub mod Learning
+pub mod Events

@@ -1,27 +1,23 @@
 // The move that is chosen for a system.
 
-ghost use Rattle.std.specs.Prelude.{◌≡◌, IfOk, is_some, map, option_map};
+ghost use Rattle.std.specs.Prelude.{◌≡◌, IfOk, option_map};
 ghost use Rattle.sp_spec_system.specs.Move as spec;
-ghost use Rattle.sp_spec_graph.specs.Premise as premise_spec;
-ghost use Rattle.sp_fact.specs.View.{fact_of};
-ghost use Rattle.sp_system.specs.SystemView.{event_of, system_of};
+ghost use Rattle.sp_system.specs.SystemView.{system_of};
 ghost use Rattle.sp_step.specs.View.{context_of, move_of};
 ghost use Rattle.sp_spec_system.specs.Picked.{first_some};
 ghost use Rattle.sp_spec_proof.specs.Choice.{choice, first_instance, picked};
 ghost use Rattle.sp_spec_proof.specs.Deciding.{sames};
-ghost use Rattle.sp_spec_proof.specs.Kinds.{at_each_event, at_each_formula, first_pickers, places_from, premises_of};
+ghost use Rattle.sp_spec_proof.specs.Kinds.{are_consecutive, at_each_formula, event_pickers, first_pickers};
 ghost use Rattle.sp_step.specs.Choosing.{answer, asked, by_kinds, last_of_all, ranked_of};
 
 use crate::context::Context;
-use crate::learning::{LearningKind, first_learning};
+use crate::events::{EVENT_KINDS, EventKind, first_at_events, first_of_one_kind};
+use crate::learning::LearningKind;
 use crate::simplify::{is_contradictory, is_reducible};
-use sp_fact::fact::Fact;
 use sp_moves::moves::Move;
 use sp_moves_formula::action::is_solvable;
 use sp_moves_formula::or::is_disjunction;
-use sp_moves_graph::premise::{Premise, open_premise};
 use sp_moves_induction::induction::is_inductive;
-use sp_system::event::Event;
 use sp_system::system::System;
 use sp_undecided::messages::first_top;
 use sp_undecided::sides::first_same;
@@ -50,10 +46,10 @@ pub enum MoveKind {
     Or,
     /// on an action
     Action,
-    /// on a premise
-    Premise,
-    /// on a message that is learnt
-    Learning(LearningKind),
+    /// at an event, of one kind
+    AtEvent(EventKind),
+    /// at an event, of any kind
+    AtAnyEvent,
     /// on two times of which a formula says that they aren't one, or that the one isn't before the other
     ToldComparison,
     /// on two times
@@ -66,19 +62,38 @@ pub enum MoveKind {
     Top,
 }
 
-// The kinds and their ranks, in the order in which they are asked: induction comes before them, and behind them the kinds that decide what is left open.
-const KINDS: [(u64, MoveKind); 10] = [
+// The kinds before those at events, and their ranks, in the order in which they are asked: induction comes before them.
+const KINDS: [(u64, MoveKind); 5] = [
     (1, MoveKind::Contradiction),
     (2, MoveKind::Simplify),
     (3, MoveKind::Solved),
     (4, MoveKind::Or),
     (5, MoveKind::Action),
-    (6, MoveKind::Learning(LearningKind::Chain)),
-    (7, MoveKind::Premise),
-    (8, MoveKind::Learning(LearningKind::Fresh)),
-    (9, MoveKind::Learning(LearningKind::Application)),
-    (10, MoveKind::Learning(LearningKind::VariableChain)),
 ];
+
+// The kinds at events, one after the other.
+const ONE_BY_ONE: [(u64, MoveKind); 5] = [
+    (
+        6,
+        MoveKind::AtEvent(EventKind::Learning(LearningKind::Chain)),
+    ),
+    (7, MoveKind::AtEvent(EventKind::Premise)),
+    (
+        8,
+        MoveKind::AtEvent(EventKind::Learning(LearningKind::Fresh)),
+    ),
+    (
+        9,
+        MoveKind::AtEvent(EventKind::Learning(LearningKind::Application)),
+    ),
+    (
+        10,
+        MoveKind::AtEvent(EventKind::Learning(LearningKind::VariableChain)),
+    ),
+];
+
+// The same as one.
+const CONSECUTIVE: [(u64, MoveKind); 1] = [(6, MoveKind::AtAnyEvent)];
 
 // The kinds that decide what is left open, and their ranks, in the order in which they are asked.
 const DECIDING: [(u64, MoveKind); 5] = [
@@ -143,8 +158,29 @@ pub fn by_kinds(
     if let Some(chosen) = first_kind(alloc, context, system, &KINDS)? {
         return Ok(Some(chosen));
     }
+    if let Some(chosen) = at_events(alloc, context, system)? {
+        return Ok(Some(chosen));
+    }
     let chosen = first_kind(alloc, context, system, &DECIDING)?;
     Ok(chosen)
+}
+
+// The kinds at events, which count as one where the proof is asked to be consecutive.
+fn at_events(
+    alloc: Global,
+    context: &Context,
+    system: &System,
+) -> Result<Option<Ranked>, AllocError>
+    ensures { IfOk result (λ o. option_map ranked_of o
+        ≡ first_some (picked (context_of context.now) (system_of system.now)) (event_pickers (are_consecutive (context_of context.now).root))) }
+{
+    if context.sought.root.consecutive {
+        let chosen = first_kind(alloc, context, system, &CONSECUTIVE)?;
+        Ok(chosen)
+    } else {
+        let chosen = first_kind(alloc, context, system, &ONE_BY_ONE)?;
+        Ok(chosen)
+    }
 }
 
 // The end of the search, where no other kind has an instance.
@@ -200,8 +236,8 @@ fn asked(
         }
         MoveKind::Or => Ok(first_disjunction(system)),
         MoveKind::Action => first_action(alloc, system),
-        MoveKind::Premise => Ok(first_premise(system)),
-        MoveKind::Learning(kind) => first_learning(alloc, context, system, kind),
+        MoveKind::AtEvent(kind) => first_of_one_kind(alloc, context, system, kind),
+        MoveKind::AtAnyEvent => first_at_events(alloc, context, system, &EVENT_KINDS),
         MoveKind::ToldComparison => first_told_comparison(alloc, system),
         MoveKind::Comparison => first_comparison(alloc, system),
         MoveKind::Same => undecided_names(alloc, context, system),
@@ -243,40 +279,4 @@ fn first_action(alloc: Global, system: &System) -> Result<Option<Move>, AllocErr
         }
     }
     Ok(None)
-}
-
-fn is_open(system: &System, time: u128, place: usize) -> bool
-    ensures { result ≡ is_some (premise_spec.open_premise (system_of system.now) time place) }
-{
-    open_premise(system, Premise { time, place }).is_some()
-}
-
-// On the first of the premises at the time whose source can be looked for.
-fn first_among(system: &System, time: u128, premises: &Vec<Fact>) -> Option<Move>
-    ensures { (context : spec.Context) → option_map move_of result
-        ≡ first_instance context (system_of system.now) (map (spec.premise time) (places_from 0 (map fact_of premises.now.items))) }
-{
-    for (place, _premise) in premises.iter().enumerate() {
-        if is_open(system, time, place) {
-            return Some(Move::Premise(time, place as u128));
-        }
-    }
-    None
-}
-
-fn first_of_event(system: &System, event: &Event) -> Option<Move>
-    ensures { (context : spec.Context) → option_map move_of result ≡ first_instance context (system_of system.now) (premises_of (event_of event.now)) }
-{
-    first_among(system, event.time, event.premises())
-}
-
-fn first_premise(system: &System) -> Option<Move>
-    ensures { (context : spec.Context) → option_map move_of result ≡ first_instance context (system_of system.now) (at_each_event premises_of context (system_of system.now)) }
-{
-    for event in system.events.iter() {
-        if let Some(chosen) = first_of_event(system, event) {
-            return Some(chosen);
-        }
-    }
-    None
 }

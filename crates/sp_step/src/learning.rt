@@ -6,7 +6,7 @@ ghost use Rattle.sp_spec_proof.specs.Kinds.{passed_last};
 ghost use Rattle.sp_term.specs.View.{view};
 ghost use Rattle.sp_system.specs.SystemView.{event_of, system_of};
 ghost use Rattle.sp_step.specs.View.{context_of, move_of};
-ghost use Rattle.sp_step.specs.Learning.{each_move, listed, moves_at};
+ghost use Rattle.sp_step.specs.Learning.{listed, moves_at};
 
 use crate::context::Context;
 use sp_moves::moves::Move;
@@ -65,8 +65,12 @@ fn offered(event: &Event, kind: LearningKind) -> Option<Move>
     }
 }
 
-// The same, if it is an instance.
-fn first_at(
+/// The kind's move at the event, if the message there is of the kind, and the move an instance.
+///
+/// # Errors
+///
+/// `AllocError` where memory is wanting.
+pub fn first_at(
     alloc: Global,
     context: &Context,
     system: &System,
@@ -84,26 +88,4 @@ fn first_at(
         return Ok(None);
     }
     Ok(Some(chosen))
-}
-
-/// The first of the kind's moves that is an instance.
-///
-/// # Errors
-///
-/// `AllocError` where memory is wanting.
-pub fn first_learning(
-    alloc: Global,
-    context: &Context,
-    system: &System,
-    kind: LearningKind,
-) -> Result<Option<Move>, AllocError>
-    ensures { IfOk result (λ o. option_map move_of o
-        ≡ first_instance (context_of context.now) (system_of system.now) (each_move kind (system_of system.now).events)) }
-{
-    for event in system.events.iter() {
-        if let Some(chosen) = first_at(alloc, context, system, event, kind)? {
-            return Ok(Some(chosen));
-        }
-    }
-    Ok(None)
 }

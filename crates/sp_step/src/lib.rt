@@ -11,6 +11,7 @@ pub mod apply;
 pub mod choose;
 pub mod context;
 mod decided;
+mod events;
 mod learning;
 pub mod moves;
 pub mod reduce;

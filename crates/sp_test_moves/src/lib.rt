@@ -7,6 +7,8 @@
 #![tactic(auto)]
 
 #[cfg(test)]
+mod deciding;
+#[cfg(test)]
 mod merged;
 #[cfg(test)]
 mod moves;

@@ -134,6 +134,7 @@ impl Parts {
                     taken: &self.taken,
                     sought: &self.formula,
                     begins_with_induction: false,
+                    consecutive: false,
                     cases: None,
                 },
             },

@@ -39,6 +39,8 @@ mod progress;
 #[cfg(test)]
 mod proofs;
 #[cfg(test)]
+mod ranking;
+#[cfg(test)]
 mod restrictions;
 #[cfg(test)]
 mod reused;

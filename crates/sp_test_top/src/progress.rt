@@ -75,7 +75,33 @@ const NEITHER: Decided = Decided {
     line: "fresh (all-traces): falsified - found trace (41 steps)",
 };
 
-static DECIDED: [Decided; 6] = [CIRCLE, BACKWARDS, NO_NAME, TWO_NAMES, NAMED, NEITHER];
+/// Without rules the adversary may send a pair, and no name.
+const NO_RULE: Decided = Decided {
+    items: "",
+    met: "",
+    lemma: "public: \"All x #i. K(x)@i ==> Ex $y #j. K($y)@j\"",
+    line: "public (all-traces): falsified - found trace (18 steps)",
+};
+
+/// A rule that can do nothing, since no rule gives what it takes, changes nothing of that.
+const IDLE: Decided = Decided {
+    items: "rule R: [ Z(x) ] --[ A(x) ]-> [ ]\n",
+    met: "",
+    lemma: "idle: exists-trace \"Ex x #i. K(x)@i & (All y #j. A(y)@j ==> F) & (All $y #j. K($y)@j ==> F)\"",
+    line: "idle (exists-trace): verified (19 steps)",
+};
+
+/// Without rules nothing is ever done.
+const ABSENT: Decided = Decided {
+    items: "",
+    met: "",
+    lemma: "p: exists-trace \"Ex x #i. P(x)@i\"",
+    line: "p (exists-trace): falsified - no trace found (2 steps)",
+};
+
+static DECIDED: [Decided; 9] = [
+    CIRCLE, BACKWARDS, NO_NAME, TWO_NAMES, NAMED, NEITHER, NO_RULE, IDLE, ABSENT,
+];
 
 fn decided_cases() -> &'static [Decided] {
     &DECIDED

@@ -83,7 +83,7 @@ checked_told theory (j ∷ js) =
     ap (λ (xs : List ℕ). summary_line j.lemma.name j.lemma.kind learns j.verdict (counted (read.steps j.proof)) ++ (block_of theory learns j.log ++ xs)) (checked_told theory js)
 
 judged_told : (text : WrittenText) (setting : Setting) (taken : List Taken) (qs : List Stated) (js : List Judged) → Every (IsKnown text) (lemmas_stated qs) → AreJudged setting taken qs js
-    → Every (JudgedRightly (theory_in text)) js → Every (λ (j : Judged). AreReadBack (theory_of (theory_in text)) (names_learning j.lemma.formula) j.log) js → Every (IsRightlyTold text) (map told_on js)
+    → Every (JudgedRightly text) js → Every (λ (j : Judged). AreReadBack (theory_of (theory_in text)) (names_learning j.lemma.formula) j.log) js → Every (IsRightlyTold text) (map told_on js)
 judged_told text setting taken [] [] k h m r = tt
 judged_told text setting taken [] (j ∷ js) k h m r = absurd h
 judged_told text setting taken (q ∷ qs) [] k h m r = absurd h
@@ -117,7 +117,7 @@ tried_true budget chosen bytes text status r told behind_end =
     let names = texts_have_names_lem.symbols bytes written posing.says in
     let ts = map told_of r.outcomes in
     let known = every_run chosen (IsKnown written) (stated_in (resolved written).items) (stated_lemmas written (IsKnown written) (all_known bytes written posing)) in
-    let right = outcomes_told written (setting_of (theory_in written)) budget [] (run_among chosen (stated_in (resolved written).items)) r.outcomes known r.analysis.outcomes_are r.right
+    let right = outcomes_told written (setting_of written) budget [] (run_among chosen (stated_in (resolved written).items)) r.outcomes known r.analysis.outcomes_are r.right
     (executions_are_read_back_lem.tried budget chosen bytes text r.outcomes r.analysis) in
     let same = behind_one text told (codes "\n/*\n" ++ (summary theory r.outcomes ++ codes "*/\n")) behind_end r.behind in
     let shape : codes "\n/*\n" ++ (summary theory r.outcomes ++ codes "*/\n") ≡ [] ++ 10 ∷ (codes "/*" ++ 10 ∷ (told_text theory ts ++ codes "*/\n")) =
@@ -137,7 +137,7 @@ checked_true chosen bytes text status r =
     let names = texts_have_names_lem.symbols bytes written posing.says in
     let ts = map told_on r.judged in
     let known = every_run chosen (IsKnown written) (stated_in (resolved written).items) (stated_lemmas written (IsKnown written) (all_known bytes written posing)) in
-    let right = judged_told written (setting_of (theory_in written)) [] (run_among chosen (stated_in (resolved written).items)) r.judged known r.checking.judged_are r.right
+    let right = judged_told written (setting_of written) [] (run_among chosen (stated_in (resolved written).items)) r.judged known r.checking.judged_are r.right
     (executions_are_read_back_lem.checked chosen bytes text r.judged r.checking) in
     let shape : text ≡ told_text theory ts ++ [] = r.checking.written_is ∙ checked_told theory r.judged ∙ sym (append-nil (told_text theory ts)) in
     let all = ap lines shape ∙ told_lines written names ts right [] ∙ ap (λ (ls : List (List ℕ)). all_lines written names ts ++ ls) one_empty in

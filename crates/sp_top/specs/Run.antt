@@ -51,7 +51,7 @@ pub record CheckedRightly (chosen : Option (List ℕ)) (bytes answer : List ℕ)
   pub judged : List Judged
   pub checking : IsChecking chosen bytes answer judged
   pub status_is : status ≡ status_of (verdicts_on judged)
-  pub right : Every (JudgedRightly (theory_in checking.theory)) judged
+  pub right : Every (JudgedRightly checking.theory) judged
 
 -- Each lemma is tried, or the one that is named, and its verdict is so, as where its proof is written, as is the number of moves of an incomplete analysis; this is written of the outcomes.
 pub record ShownRightly (budget : ℕ) (chosen : Option (List ℕ)) (shows : Theory → List Outcome → List ℕ) (bytes answer : List ℕ) (status : Status) : Type 0 where

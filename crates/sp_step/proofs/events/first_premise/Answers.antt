@@ -5,7 +5,7 @@ use Rattle.sp_spec_system.specs.Move.{premise}
 use Rattle.sp_system.specs.SystemView.{system_of}
 use Rattle.sp_spec_proof.specs.Choice.{first_instance}
 use Rattle.sp_spec_proof.specs.Kinds.{places_from}
-use Rattle.sp_step.proofs.choose.first_of_event.Goals as goal
+use Rattle.sp_step.proofs.events.first_premise.Goals as goal
 
 pub returns : goal.returns
 returns c context =

@@ -4,7 +4,7 @@ use Rattle.sp_fact.specs.View.{fact_of}
 use Rattle.sp_system.specs.SystemView.{system_of}
 use Rattle.sp_spec_proof.specs.Choice.{first_instance}
 use Rattle.sp_spec_proof.specs.Kinds.{places_from}
-use Rattle.sp_step.proofs.choose.first_among.Given as goal
+use Rattle.sp_step.proofs.events.first_among.Given as goal
 
 abbrev pub invariant-loop-place : goal.invariant-loop-place
 invariant-loop-place l = (context : Context) →

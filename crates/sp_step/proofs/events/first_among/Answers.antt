@@ -2,8 +2,9 @@ use Rattle.std.proofs.Common.{◌<◌, ◌≡◌, length, get_or, sym, ◌∙◌
 use Rattle.sp_spec_system.specs.Move.{premise}
 use Rattle.sp_fact.specs.View.{fact_of}
 use Rattle.sp_system.specs.SystemView.{system_of}
-use Rattle.sp_step.proofs.Choosing.{next_place, is_open}
-use Rattle.sp_step.proofs.choose.first_among.Goals as goal
+use Rattle.sp_step.proofs.EventMoves.{is_open}
+use Rattle.sp_step.proofs.Choosing.{next_place}
+use Rattle.sp_step.proofs.events.first_among.Goals as goal
 
 pub returns-then-is_open : goal.returns-then-is_open
 returns-then-is_open c context =
